@@ -1,0 +1,18 @@
+-- Choices and conjunctions whose tests are known. `rw` by a test would rewrite the records that hold its numbers too.
+use mathlib.Core.Path.{_≡_, refl, ap}
+use mathlib.Core.Bool.{Bool, true, false, _&&_, cond}
+
+module _ {A : Type 0} {b : Bool} (x y : A) where
+  pub cond-yes : b ≡ true → cond b x y ≡ x
+  cond-yes e = ap (λ (t : Bool). cond t x y) e
+
+  pub cond-no : b ≡ false → cond b x y ≡ y
+  cond-no e = ap (λ (t : Bool). cond t x y) e
+
+pub and-false : (b : Bool) → b && false ≡ false
+and-false true = refl
+and-false false = refl
+
+pub and-true : (b : Bool) → b && true ≡ b
+and-true true = refl
+and-true false = refl

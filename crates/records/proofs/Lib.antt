@@ -1,0 +1,9 @@
+pub mod Booleans
+pub mod Lists
+pub mod Products
+pub mod HashLaws
+pub mod BucketLaws
+pub mod ScheduleLaws
+pub mod NameLaws
+pub mod SearchLaws
+pub mod AgeingLaws

@@ -1,0 +1,58 @@
+-- `first_free` meets its contract. The invariant: the search from slot i on is the whole search.
+use mathlib.Core.Path.{_≡_, refl, sym, _∙_}
+use mathlib.Core.Bool.{false, not}
+use Prim.Native.Nat.{_≤_, _-_}
+use native.Mathlib.Omega.{arith}
+use lib.ListN.{getD}
+use Rattle.records.specs.Search.{firstFrom}
+use Rattle.records.specs.Ageing.{firstFree}
+use Rattle.records.proofs.SearchLaws.{first-hit, first-miss, first-none}
+use Rattle.records.proofs.ageing.first_free.Statement.{statement}
+use Rattle.records.proofs.ageing.first_free.Tie as tie
+
+abbrev Inv-loop : tie.InvT-loop
+Inv-loop active i₀ i =
+    (i ≤ 16) × (firstFree active ≡ firstFrom (λ j. not (getD active j false)) i (16 - i))
+
+abbrev μ-loop : tie.MeasureT-loop
+μ-loop active i₀ i = 16 - i
+
+loop-holds : tie.Need-loop-holds Inv-loop μ-loop
+unfolding firstFree
+loop-holds c = (omega arith, refl)
+
+element-copy-out-if2 : tie.Need-element-copy-out-if2 Inv-loop μ-loop
+element-copy-out-if2 c = omega arith
+
+add-i : tie.Need-add-i Inv-loop μ-loop
+add-i c = omega arith
+
+loop-less : tie.Need-loop-less Inv-loop μ-loop
+loop-less c = omega arith
+
+loop-again : tie.Need-loop-again Inv-loop μ-loop
+loop-again c =
+    let l = c .before .before .before .loop in
+    (omega arith, l .inv .1 ∙ first-miss _ _ _ (omega arith) (c .if2 .left))
+
+returns : tie.Need-returns Inv-loop μ-loop
+returns c = sym (c .before .loop .inv .1 ∙ first-none _ _ _ (omega arith))
+
+returns-2 : tie.Need-returns-2 Inv-loop μ-loop
+returns-2 c =
+    let l = c .before .before .before .loop in
+    sym (l .inv .1 ∙ first-hit _ _ _ (omega arith) (c .if2 .taken))
+
+pub first-free-spec : {M : Type 1} → statement M
+first-free-spec =
+    tie.close
+    (tie.spec
+    Inv-loop
+    μ-loop
+    loop-holds
+    element-copy-out-if2
+    add-i
+    loop-less
+    loop-again
+    returns
+    returns-2)

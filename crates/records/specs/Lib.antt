@@ -1,0 +1,12 @@
+pub mod Error
+pub mod Counter
+pub mod Alert
+pub mod Result
+pub mod Service
+pub mod Frame
+pub mod Schedule
+pub mod Hash
+pub mod Bucket
+pub mod Search
+pub mod Ageing
+pub mod Name

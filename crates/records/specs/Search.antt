@@ -1,0 +1,19 @@
+-- The search for a slot (01, "Forms to change": a search that stops at its first hit and yields that place).
+use Prim.Native.Nat.{ℕ, zero, suc}
+use mathlib.Core.Bool.{Bool, cond}
+use Rattle.records.specs.declared.search.Found.{Found}
+use Rattle.records.specs.declared.search.Found.the-variants.{At, Nothing}
+
+-- the first slot, of the n from i on, that passes the test
+unfoldable pub firstFrom : (ℕ → Bool) → ℕ → ℕ → Found
+firstFrom test i zero = Nothing
+firstFrom test i (suc n) = cond (test i) (At i) (firstFrom test (suc i) n)
+
+-- the first of sixteen slots that passes the test
+abbrev pub first : (ℕ → Bool) → Found
+first test = firstFrom test 0 16
+
+-- the slot that was found, or another where there is none
+abbrev pub slotOr : ℕ → Found → ℕ
+slotOr other (At i) = i
+slotOr other Nothing = other

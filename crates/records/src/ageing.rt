@@ -1,0 +1,121 @@
+// Ageing, carried over from industrial/iec61850-monitor/src/lib.rs of craton-shield a31d888527 (Apache-2.0) and changed:
+// one component for the four tables that give up their oldest entry.
+ghost use mathlib.Core.Path.{_≡_};
+ghost use Rattle.records.specs.Ageing.{nextTick, ageAt, exceeds, firstFree, oldest, slotFor, noUse, usedAt};
+use crate::search::Found;
+
+// Which of the sixteen slots are in use, the tick of each slot's last use, and the tick of the latest use.
+pub struct Ageing {
+    pub active: [bool; 16],
+    pub last_used: [u32; 16],
+    pub tick: u32,
+}
+
+// Which entry a full table gives up where several are oldest.
+pub enum EqualAges {
+    First,
+    Last,
+}
+
+// The tick after this one.
+pub fn next_tick(tick: u32) -> u32
+    ensures { λ r. ⌜ r ≡ nextTick tick ⌝ }
+{
+    std::num::wrapping_add_u32(tick, 1)
+}
+
+// How many ticks ago a slot was used.
+pub fn age(tick: u32, last_used: u32) -> u32
+    ensures { λ r. ⌜ r ≡ ageAt tick «last_used» ⌝ }
+{
+    std::num::wrapping_sub_u32(tick, last_used)
+}
+
+impl EqualAges {
+    // Whether a later slot of age `later` goes before an earlier one of age `earlier`.
+    pub fn exceeds(self, earlier: u32, later: u32) -> bool
+        ensures { λ r. ⌜ r ≡ exceeds self earlier later ⌝ }
+    {
+        match self {
+            EqualAges::First => earlier < later,
+            EqualAges::Last => earlier <= later,
+        }
+    }
+}
+
+// The first slot that is not in use.
+pub fn first_free(active: &[bool; 16]) -> Found
+    ensures { λ r. ⌜ r ≡ firstFree (now (active .entry)) ⌝ }
+{
+    let mut i: usize = 0;
+    loop {
+        if i >= 16 {
+            break Found::Nothing;
+        }
+        if !active[i] {
+            break Found::At(i);
+        }
+        i += 1;
+    }
+}
+
+// The slot of the greatest age.
+pub fn oldest(last_used: &[u32; 16], tick: u32, rule: EqualAges) -> usize
+    ensures { λ r. ⌜ r ≡ oldest rule tick (now («last_used» .entry)) ⌝ }
+{
+    let mut slot: usize = 0;
+    let mut greatest = age(tick, last_used[0]);
+    let mut i: usize = 1;
+    while i < 16 {
+        let a = age(tick, last_used[i]);
+        if rule.exceeds(greatest, a) {
+            greatest = a;
+            slot = i;
+        }
+        i += 1;
+    }
+    slot
+}
+
+// The slot that a new key takes: a free one, or that of the oldest entry.
+pub fn slot_for<'a>(
+    active: &'a [bool; 16],
+    last_used: &'a [u32; 16],
+    tick: u32,
+    rule: EqualAges,
+) -> usize
+    ensures { λ r. ⌜ r ≡ slotFor rule tick (now (active .entry)) (now («last_used» .entry)) ⌝ }
+{
+    match first_free(active) {
+        Found::At(i) => i,
+        Found::Nothing => oldest(last_used, tick, rule),
+    }
+}
+
+impl Ageing {
+    // No slot in use.
+    pub fn new() -> Self
+        ensures { λ r. ⌜ r ≡ noUse ⌝ }
+    {
+        Ageing {
+            active: [false; 16],
+            last_used: [0; 16],
+            tick: 0,
+        }
+    }
+
+    // After a use of the slot; a slot of 16 or more changes nothing.
+    pub fn used(self, slot: usize) -> Self
+        ensures { λ r. ⌜ r ≡ usedAt self slot ⌝ }
+    {
+        if slot >= 16 {
+            return self;
+        }
+        let tick = next_tick(self.tick);
+        let mut out = self;
+        out.active[slot] = true;
+        out.last_used[slot] = tick;
+        out.tick = tick;
+        out
+    }
+}

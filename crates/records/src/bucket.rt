@@ -1,0 +1,92 @@
+// Carried over from industrial/types-ind/src/lib.rs of craton-shield a31d888527 (Apache-2.0) and changed: a bucket goes in by
+// value and comes back; its key and its use belong to the table that keeps it.
+ghost use mathlib.Core.Path.{_≡_};
+ghost use Rattle.records.specs.Bucket.{refill, tokensWith, refilled, allows, consumed, firstCall};
+
+// A token bucket: tokens per second, tokens left, and the time of the last refill.
+pub struct RateBucket {
+    pub tokens: u16,
+    pub capacity: u16,
+    pub last_refill_us: u64,
+}
+
+// The tokens that a time brings, the most where the product passes 64 bits.
+pub fn refill(elapsed_us: u64, capacity: u16) -> u64
+    ensures { λ r. ⌜ r ≡ refill «elapsed_us» capacity ⌝ }
+{
+    let per_second = capacity as u64;
+    if per_second == 0 {
+        return 0;
+    }
+    if 0xffff_ffff_ffff_ffff / per_second < elapsed_us {
+        return 0xffff_ffff_ffff_ffff;
+    }
+    elapsed_us * per_second / 1_000_000
+}
+
+// The tokens after a refill, capacity at most.
+pub fn tokens_with(tokens: u16, refill: u64, capacity: u16) -> u16
+    ensures { λ r. ⌜ r ≡ tokensWith tokens refill capacity ⌝ }
+{
+    let most = capacity as u64;
+    if most <= refill {
+        return capacity;
+    }
+    let sum = (tokens as u64) + refill;
+    if most <= sum {
+        return capacity;
+    }
+    sum as u16
+}
+
+impl RateBucket {
+    // After refilling at a time.
+    pub fn refilled(self, now_us: u64) -> Self
+        ensures { λ r. ⌜ r ≡ refilled self «now_us» ⌝ }
+    {
+        let mut out = self;
+        if now_us < self.last_refill_us {
+            out.tokens = self.capacity;
+            out.last_refill_us = now_us;
+            return out;
+        }
+        let more = refill(now_us - self.last_refill_us, self.capacity);
+        if more == 0 {
+            return self;
+        }
+        out.tokens = tokens_with(self.tokens, more, self.capacity);
+        out.last_refill_us = now_us;
+        out
+    }
+
+    // Whether a call at a time is allowed: whether it finds a token.
+    pub fn allows(self, now_us: u64) -> bool
+        ensures { λ r. ⌜ r ≡ allows self «now_us» ⌝ }
+    {
+        let b = self.refilled(now_us);
+        b.tokens > 0
+    }
+
+    // After a call at a time: refilled, and one token taken if there is one.
+    pub fn consumed(self, now_us: u64) -> Self
+        ensures { λ r. ⌜ r ≡ consumed self «now_us» ⌝ }
+    {
+        let mut b = self.refilled(now_us);
+        if b.tokens > 0 {
+            b.tokens = b.tokens - 1;
+        }
+        b
+    }
+
+    // A new bucket after its first call, which it allows.
+    pub fn first_call(capacity: u16, now_us: u64) -> Self
+        ensures { λ r. ⌜ r ≡ firstCall capacity «now_us» ⌝ }
+    {
+        let left = if capacity > 0 { capacity - 1 } else { 0 };
+        RateBucket {
+            tokens: left,
+            capacity: capacity,
+            last_refill_us: now_us,
+        }
+    }
+}

@@ -1,0 +1,13 @@
+// The lowest crate of the IEC 61850 monitor: numbers and enums, alerts, results, frames, schedule, hash, bucket, names, ageing.
+pub mod ageing;
+pub mod alert;
+pub mod bucket;
+pub mod counter;
+pub mod error;
+pub mod frame;
+pub mod hash;
+pub mod name;
+pub mod result;
+pub mod schedule;
+pub mod search;
+pub mod service;
