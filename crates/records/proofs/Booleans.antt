@@ -1,6 +1,6 @@
 -- Choices and conjunctions whose tests are known. `rw` by a test would rewrite the records that hold its numbers too.
 use mathlib.Core.Path.{_≡_, refl, ap}
-use mathlib.Core.Bool.{Bool, true, false, _&&_, cond}
+use mathlib.Core.Bool.{Bool, true, false, _&&_, cond, false≢true}
 
 module _ {A : Type 0} {b : Bool} (x y : A) where
   pub cond-yes : b ≡ true → cond b x y ≡ x
@@ -16,3 +16,7 @@ and-false false = refl
 pub and-true : (b : Bool) → b && true ≡ b
 and-true true = refl
 and-true false = refl
+
+pub and-both : (a b : Bool) → a && b ≡ true → (a ≡ true) × (b ≡ true)
+and-both true b e = (refl, e)
+and-both false b e = absurd (false≢true e)

@@ -1,5 +1,6 @@
 pub mod Booleans
 pub mod Lists
+pub mod NumberLaws
 pub mod Products
 pub mod HashLaws
 pub mod BucketLaws
@@ -7,3 +8,4 @@ pub mod ScheduleLaws
 pub mod NameLaws
 pub mod SearchLaws
 pub mod AgeingLaws
+pub mod PointsHold

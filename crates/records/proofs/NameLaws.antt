@@ -1,16 +1,19 @@
 -- Laws of names: octets compared, stored and copied one by one.
 use mathlib.Core.Path.{_≡_, refl, ap, _∙_, sym}
-use mathlib.Core.Bool.{false}
+use mathlib.Core.Bool.{true, false, cond}
+use mathlib.Core.Logic.{⊎-elim}
 use mathlib.Core.List.{List, [], _∷_, _++_, append-assoc, append-nil}
-use Prim.Native.Nat.{ℕ, zero, suc, _+_, _≤_, _<_}
-use native.Mathlib.Nat.{zero-add}
+use Prim.Native.Nat.{ℕ, zero, suc, _+_, _*_, _≤_, _<_}
+use native.Mathlib.Nat.{zero-add, not-suc-le-zero, le-of-suc-le-suc, eq-or-lt-of-le}
 use native.Mathlib.Numerals.{add-one}
 use native.Mathlib.Omega.{arith}
-use borrow.Author.Tests.{eq-eqb, ne-eqb}
-use lib.ListN.{length, set, drop, length-append, length-set, drop-of-length-le}
-use lib.Seq.{drop-cons, set-at, append-snoc}
-use Rattle.records.proofs.Booleans.{and-true, and-false}
-use Rattle.records.specs.Name.{tabulate, agree, overwritten}
+use native.Mathlib.Decide.{ℕ-discrete, decLt}
+use borrow.Author.Tests.{lt-ltb, le-ltb, eq-eqb, ne-eqb, eqb-true}
+use lib.Dec.{eqb, ltb}
+use lib.ListN.{length, getD, set, take, drop, List·getD-append, length-append, length-set, drop-of-length-le}
+use lib.Seq.{drop-cons, set-at, getD-at, getD-take, getD-set-same, getD-set-other, length-take-le, ext-getD}
+use Rattle.records.proofs.Booleans.{cond-yes, and-true, and-false, and-both}
+use Rattle.records.specs.Name.{tabulate, octetAt, padded, agree, overwritten, octetsStored}
 
 module _ (f g : ℕ → ℕ) (i : ℕ) where
   pub agree-differ : (f i ≡ g i → ⊥) → agree f g (i + 1) ≡ false
@@ -51,3 +54,94 @@ module _ (l : List ℕ) (f : ℕ → ℕ) where
       overwritten-front n (omega arith)
       ∙ ap (λ (r : List ℕ). tabulate f n ++ r) (drop-of-length-le l {i = n} (omega arith))
       ∙ append-nil (tabulate f n)
+
+-- ---- octet by octet
+
+pub tabulate-at : (f : ℕ → ℕ) (n k d : ℕ) → k < n → getD (tabulate f n) k d ≡ f k
+unfolding tabulate
+tabulate-at f zero k d h = absurd (not-suc-le-zero h)
+tabulate-at f (suc n) k d h =
+    ⊎-elim (λ e. rw e (getD-at (tabulate f n) (f n) [] d n (length-tabulate f n)))
+    (λ l. List·getD-append (tabulate f n) (f n ∷ []) d k (omega (arith, length-tabulate f n)) ∙ tabulate-at f n k d l)
+    (eq-or-lt-of-le (le-of-suc-le-suc h))
+
+module _ (octets : List ℕ) (len : ℕ) where
+  pub length-padded : length (padded octets len) ≡ 64
+  unfolding padded
+  length-padded = length-tabulate _ 64
+
+  -- below the name's length its octets, zeros behind
+  pub padded-at : (k : ℕ) → k < 64 → octetAt (padded octets len) k ≡ cond (ltb k len) (octetAt octets k) 0
+  unfolding padded
+  padded-at k h = tabulate-at _ 64 k 0 h
+
+module _ (f g : ℕ → ℕ) where
+  pub agree-at : (n : ℕ) → agree f g n ≡ true → (k : ℕ) → k < n → f k ≡ g k
+  unfolding agree
+  agree-at zero e k h = absurd (not-suc-le-zero h)
+  agree-at (suc n) e k h =
+      let b = and-both (agree f g n) (eqb (f n) (g n)) e in
+      ⊎-elim (λ i. rw i (eqb-true (f n) (g n) (b .1))) (λ l. agree-at n (b .0) k l)
+      (eq-or-lt-of-le (le-of-suc-le-suc h))
+
+  pub agree-all : (n : ℕ) → ((k : ℕ) → k < n → f k ≡ g k) → agree f g n ≡ true
+  unfolding agree
+  agree-all zero h = refl
+  agree-all (suc n) h = rw (agree-all n (λ k l. h k (omega arith)), eq-eqb (f n) (g n) (h n (omega arith)))
+
+  pub tabulate-same : (n : ℕ) → ((k : ℕ) → k < n → f k ≡ g k) → tabulate f n ≡ tabulate g n
+  unfolding tabulate
+  tabulate-same zero h = refl
+  tabulate-same (suc n) h = rw (tabulate-same n (λ k l. h k (omega arith)), h n (omega arith))
+
+-- equal names are kept as equal octets, and only they
+module _ (a b : List ℕ) (n : ℕ) (la : length a ≡ 64) (lb : length b ≡ 64) (h : n ≤ 64) where
+  pub padded-same : take n a ≡ take n b → padded a n ≡ padded b n
+  unfolding padded
+  padded-same e = tabulate-same _ _ 64 (λ k l. go k (decLt k n))
+    where
+      go : (k : ℕ) → Dec (k < n) → cond (ltb k n) (octetAt a k) 0 ≡ cond (ltb k n) (octetAt b k) 0
+      go k (yes l) = rw (lt-ltb k n l, ← getD-take n a k 0 l, ← getD-take n b k 0 l, e)
+      go k (no l) = rw (le-ltb k n (omega arith))
+
+  pub padded-only : padded a n ≡ padded b n → take n a ≡ take n b
+  padded-only e =
+      ext-getD 0 (take n a) (take n b) (length-take-le n a (omega arith) ∙ sym (length-take-le n b (omega arith)))
+      (λ k l. go k (omega (arith, length-take-le n a (omega arith))))
+    where
+      at : (c : List ℕ) (k : ℕ) → k < n → octetAt (padded c n) k ≡ octetAt c k
+      at c k l = padded-at c n k (omega arith) ∙ cond-yes _ _ (lt-ltb k n l)
+
+      go : (k : ℕ) → k < n → octetAt (take n a) k ≡ octetAt (take n b) k
+      go k l = rw (getD-take n a k 0 l, getD-take n b k 0 l) (sym (at a k l) ∙ ap (λ (c : List ℕ). octetAt c k) e ∙ at b k l)
+
+-- ---- what a slot holds after a name is stored
+
+module _ (l : List ℕ) (start : ℕ) (f : ℕ → ℕ) where
+  pub overwritten-in : (n k : ℕ) → k < n → start + n ≤ length l → octetAt (overwritten l start f n) (start + k) ≡ f k
+  unfolding overwritten
+  overwritten-in zero k h w = absurd (not-suc-le-zero h)
+  overwritten-in (suc n) k h w = go (ℕ-discrete k n) (overwritten-in n k)
+    where
+      go : Dec (k ≡ n) → (k < n → start + n ≤ length l → octetAt (overwritten l start f n) (start + k) ≡ f k)
+          → octetAt (set (overwritten l start f n) (start + n) (f n)) (start + k) ≡ f k
+      go (yes e) ih = rw e (getD-set-same (overwritten l start f n) (start + n) (f n) 0 (omega (arith, length-overwritten l f start n)))
+      go (no e) ih = getD-set-other (overwritten l start f n) (start + n) (start + k) (f n) 0 (λ q. e (omega arith)) ∙ ih (omega arith) (omega arith)
+
+  pub overwritten-out : (n k : ℕ) → ((j : ℕ) → j < n → k ≡ start + j → ⊥) → octetAt (overwritten l start f n) k ≡ octetAt l k
+  unfolding overwritten
+  overwritten-out zero k o = refl
+  overwritten-out (suc n) k o =
+      getD-set-other (overwritten l start f n) (start + n) k (f n) 0 (o n (omega arith)) ∙ overwritten-out n k (λ j h. o j (omega arith))
+
+module _ (octets name : List ℕ) (slot : ℕ) (h : slot < 16) where
+  pub stored-here : length octets ≡ 1024 → (k : ℕ) → k < 64 → octetAt (octetsStored octets slot name) (slot * 64 + k) ≡ octetAt name k
+  unfolding octetsStored
+  stored-here e k l = rw (lt-ltb slot 16 h) (overwritten-in octets (slot * 64) (octetAt name) 64 k l (omega arith))
+
+  pub stored-elsewhere :
+      (other k : ℕ) → (other ≡ slot → ⊥) → k < 64
+      → octetAt (octetsStored octets slot name) (other * 64 + k) ≡ octetAt octets (other * 64 + k)
+  unfolding octetsStored
+  stored-elsewhere other k n l =
+      rw (lt-ltb slot 16 h) (overwritten-out octets (slot * 64) (octetAt name) 64 (other * 64 + k) (λ j b e. n (omega arith)))

@@ -65,6 +65,16 @@ codeNumber ForeignDevice = 40
 codeNumber NpduLoop = 41
 codeNumber BroadcastFlood = 42
 
+-- sources: MMS 40, GOOSE 41, SV 42
+abbrev pub sourceMms : ℕ
+sourceMms = 40
+
+abbrev pub sourceGoose : ℕ
+sourceGoose = 41
+
+abbrev pub sourceSv : ℕ
+sourceSv = 42
+
 -- what a slot without an alert holds: id 0, Info, the result's source, zeros, code 0
 unfoldable pub noAlert : ℕ → CodedAlert
 noAlert source =

@@ -5,7 +5,7 @@ use lib.Bits.{bitXor}
 
 -- the hash after one more octet: the octet xored in, then times the prime, modulo 2^32
 unfoldable pub hashStep : ℕ → ℕ → ℕ
-hashStep h octet = bitXor h octet * 0x01000193 % 2 ^ 32
+hashStep h octet = bitXor octet h * 0x01000193 % 2 ^ 32
 
 unfoldable pub hashFrom : ℕ → List ℕ → ℕ
 hashFrom h [] = h

@@ -10,3 +10,4 @@ pub mod Bucket
 pub mod Search
 pub mod Ageing
 pub mod Name
+pub mod Points

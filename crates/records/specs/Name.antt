@@ -4,12 +4,16 @@ use Prim.Native.Nat.{ℕ, zero, suc, _+_, _*_, min}
 use mathlib.Core.Bool.{Bool, true, _&&_, cond}
 use mathlib.Core.List.{List, [], _∷_, _++_}
 use lib.Dec.{eqb, ltb}
-use lib.ListN.{getD, set, replicate}
+use lib.ListN.{getD, set, take, replicate}
 use Rattle.records.specs.declared.name.Names.{Names}
 
 -- stated lengths above 64 count as 64
 abbrev pub validLen : ℕ → ℕ
 validLen len = min len 64
+
+-- the name that a frame states: its first octets, 64 at most
+abbrev pub nameOf : List ℕ → ℕ → List ℕ
+nameOf octets len = take (validLen len) octets
 
 -- the list of f 0 to f (n − 1)
 unfoldable pub tabulate : (ℕ → ℕ) → ℕ → List ℕ
