@@ -8,4 +8,8 @@ pub mod ScheduleLaws
 pub mod NameLaws
 pub mod SearchLaws
 pub mod AgeingLaws
+pub mod KeyedLists
+pub mod ByLastUse
+pub mod UseOrder
+pub mod AgeingTable
 pub mod PointsHold

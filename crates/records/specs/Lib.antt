@@ -10,4 +10,5 @@ pub mod Bucket
 pub mod Search
 pub mod Ageing
 pub mod Name
+pub mod Remembered
 pub mod Points
