@@ -75,18 +75,22 @@ sourceGoose = 41
 abbrev pub sourceSv : ℕ
 sourceSv = 42
 
--- what a slot without an alert holds: id 0, Info, the result's source, zeros, code 0
-unfoldable pub noAlert : ℕ → CodedAlert
-noAlert source =
+-- an alert has a number, severity, the frame's time, a zero hash and a source number
+unfoldable pub alertOf : ℕ → AlertSeverity → ℕ → ℕ → ℕ → AlertCode → CodedAlert
+alertOf number severity source sourceNumber time code =
     record {
       alert =
           record {
-            id = 0;
-            «timestamp_us» = 0;
+            id = number;
+            «timestamp_us» = time;
             «payload_hash» = replicate 32 0;
-            severity = Info;
-            «source_id» = 0;
+            severity = severity;
+            «source_id» = sourceNumber;
             «source_type» = source;
           };
-      code = Unspecified;
+      code = code;
     }
+
+-- what a slot without an alert holds: id 0, Info, the result's source, zeros, code 0
+unfoldable pub noAlert : ℕ → CodedAlert
+noAlert source = alertOf 0 Info source 0 0 Unspecified

@@ -9,7 +9,7 @@ use Rattle.records.specs.declared.alert.CodedAlert.{CodedAlert}
 use Rattle.records.specs.declared.result.InspectResult.{InspectResult}
 use Rattle.records.specs.declared.result.AlertCounters.{AlertCounters}
 use Rattle.records.specs.declared.result.Pushed.{Pushed}
-use Rattle.records.specs.Alert.{denies, noAlert}
+use Rattle.records.specs.Alert.{denies, alertOf, noAlert}
 use Rattle.records.specs.Counter.{saturated, wrapped}
 
 -- allowed, with no alert
@@ -26,22 +26,6 @@ cleanResult source =
 -- High or Critical clears allowed
 unfoldable pub allowedWith : Bool → AlertSeverity → Bool
 allowedWith allowed severity = allowed && not (denies severity)
-
--- an alert has the next number, severity, the frame's time, a zero hash and a source number
-unfoldable pub alertOf : ℕ → AlertSeverity → ℕ → ℕ → ℕ → AlertCode → CodedAlert
-alertOf number severity source sourceNumber time code =
-    record {
-      alert =
-          record {
-            id = number;
-            «timestamp_us» = time;
-            «payload_hash» = replicate 32 0;
-            severity = severity;
-            «source_id» = sourceNumber;
-            «source_type» = source;
-          };
-      code = code;
-    }
 
 -- the next number wraps in 64 bits, the total saturates
 unfoldable pub counted : AlertCounters → AlertCounters

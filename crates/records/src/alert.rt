@@ -1,7 +1,7 @@
 // Carried over from core/types/src/lib.rs and industrial/types-ind/src/lib.rs of craton-shield a31d888527 (Apache-2.0) and
 // changed: the numbers are functions, and a code stands in one struct with its alert.
 ghost use mathlib.Core.Path.{_≡_};
-ghost use Rattle.records.specs.Alert.{severityNumber, denies, codeNumber, noAlert};
+ghost use Rattle.records.specs.Alert.{severityNumber, denies, codeNumber, alertOf, noAlert};
 
 pub enum AlertSeverity {
     Info,
@@ -157,20 +157,41 @@ pub struct CodedAlert {
 }
 
 impl CodedAlert {
+    // An alert with a zero hash.
+    pub fn new(
+        id: u64,
+        severity: AlertSeverity,
+        source_type: u8,
+        source_id: u32,
+        ts_us: u64,
+        code: AlertCode,
+    ) -> Self
+        ensures { λ r. ⌜ r ≡ alertOf id severity «source_type» «source_id» «ts_us» code ⌝ }
+    {
+        CodedAlert {
+            alert: SecurityAlert {
+                id: id,
+                timestamp_us: ts_us,
+                payload_hash: [0; 32],
+                severity: severity,
+                source_id: source_id,
+                source_type: source_type,
+            },
+            code: code,
+        }
+    }
+
     // What stands in a slot that holds no alert.
     pub fn none(source_type: u8) -> Self
         ensures { λ r. ⌜ r ≡ noAlert «source_type» ⌝ }
     {
-        CodedAlert {
-            alert: SecurityAlert {
-                id: 0,
-                timestamp_us: 0,
-                payload_hash: [0; 32],
-                severity: AlertSeverity::Info,
-                source_id: 0,
-                source_type: source_type,
-            },
-            code: AlertCode::Unspecified,
-        }
+        CodedAlert::new(
+            0,
+            AlertSeverity::Info,
+            source_type,
+            0,
+            0,
+            AlertCode::Unspecified,
+        )
     }
 }

@@ -5,7 +5,6 @@ ghost use Rattle.records.specs.Result.{cleanResult, allowedWith, pushed}
 use crate::alert::AlertCode;
 use crate::alert::AlertSeverity;
 use crate::alert::CodedAlert;
-use crate::alert::SecurityAlert;
 use crate::counter::saturating_increment;
 use crate::counter::wrapping_increment;
 
@@ -74,22 +73,13 @@ impl InspectResult {
                 counters: counters,
             };
         }
-        out.alerts[slot] = CodedAlert {
-            alert: SecurityAlert {
-                id: counters.next_alert_id,
-                timestamp_us: ts_us,
-                payload_hash: [0; 32],
-                severity: severity,
-                source_id: source_id,
-                source_type: source_type,
-            },
-            code: code,
-        };
+        let id = counters.next_alert_id;
+        out.alerts[slot] = CodedAlert::new(id, severity, source_type, source_id, ts_us, code);
         out.alert_count = self.alert_count + 1;
         Pushed {
             result: out,
             counters: AlertCounters {
-                next_alert_id: wrapping_increment(counters.next_alert_id),
+                next_alert_id: wrapping_increment(id),
                 total_alerts: saturating_increment(counters.total_alerts),
             },
         }
