@@ -11,7 +11,7 @@ refill elapsed capacity =
 
 -- a refill adds tokens, to capacity at most
 abbrev pub tokensWith : ℕ → ℕ → ℕ → ℕ
-tokensWith tokens refill capacity = min (tokens + refill) capacity
+tokensWith tokens added capacity = min (tokens + added) capacity
 
 -- a bucket of other tokens and another time
 abbrev pub bucketWith : RateBucket → ℕ → ℕ → RateBucket
@@ -19,9 +19,9 @@ bucketWith b tokens time = record { tokens = tokens; capacity = b .capacity; «l
 
 -- an earlier clock fills it and becomes its time; else only a refill above 0 adds tokens and moves the time
 unfoldable pub refilledBy : RateBucket → ℕ → ℕ → RateBucket
-refilledBy b time refill =
+refilledBy b time added =
     cond (ltb time (b .«last_refill_us»)) (bucketWith b (b .capacity) time)
-    (cond (eqb refill 0) b (bucketWith b (tokensWith (b .tokens) refill (b .capacity)) time))
+    (cond (eqb added 0) b (bucketWith b (tokensWith (b .tokens) added (b .capacity)) time))
 
 unfoldable pub refilled : RateBucket → ℕ → RateBucket
 refilled b time = refilledBy b time (refill (time - b .«last_refill_us») (b .capacity))
