@@ -1,0 +1,5 @@
+pub mod PartLaws
+pub mod NumberLaws
+pub mod ElementLaws
+pub mod HeaderLaws
+pub mod SvLaws

@@ -1,0 +1,4 @@
+pub mod Number
+pub mod Element
+pub mod Header
+pub mod Sv

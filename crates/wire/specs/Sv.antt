@@ -1,0 +1,97 @@
+-- The sampled-values frame (01, "SV frame").
+use Prim.Native.Nat.{ℕ, _+_, _-_}
+use mathlib.Core.Bool.{Bool, true, false, _&&_, _||_, cond}
+use mathlib.Core.List.{List, [], _∷_}
+use lib.Dec.{eqb, leb}
+use lib.ListN.{length, take, drop, replicate}
+use Rattle.records.specs.declared.error.VsError.the-variants.{InvalidInput}
+use Rattle.records.specs.declared.frame.SvFrame.{SvFrame}
+use Rattle.records.specs.Frame.{defaultSv}
+use Rattle.records.specs.Name.{validLen, octetAt, overwritten}
+use Rattle.wire.specs.declared.number.Unsigned.{Unsigned}
+use Rattle.wire.specs.declared.number.Unsigned.the-variants as unsigned
+use Rattle.wire.specs.declared.header.Apdu.{Apdu}
+use Rattle.wire.specs.declared.header.Apdu.the-variants.{At, Refused}
+use Rattle.wire.specs.declared.header.Header.{Header}
+use Rattle.wire.specs.declared.sv.Parsed.the-variants.{Frame, Error}
+use Rattle.wire.specs.declared.sv.ParsedSv.{ParsedSv}
+use Rattle.wire.specs.Number.{bigEndian, pairAt, unsignedInt}
+use Rattle.wire.specs.Element.{Elements, ended, unreadable, next, elements, firstContent, opened}
+use Rattle.wire.specs.Header.{header}
+
+-- an unreadable frame is InvalidInput, and no frame
+unfoldable pub refusedSv : ParsedSv
+refusedSv = record { answer = Error InvalidInput; frame = defaultSv }
+
+abbrev pub isValue : Unsigned → Bool
+isValue (unsigned.Value v) = true
+isValue unsigned.Refused = false
+
+-- 80 svID and 81 data set have 0 to 64 octets, 82 smpCnt has 2, 86 is a rate of 1 to 4 octets and at most 65535
+unfoldable pub fieldFits : ℕ → List ℕ → Bool
+fieldFits tag content =
+    cond (eqb tag 0x80 || eqb tag 0x81) (leb (length content) 64)
+    (cond (eqb tag 0x82) (eqb (length content) 2)
+    (cond (eqb tag 0x86) (isValue (unsignedInt content)) true))
+
+-- a shorter name leaves the earlier octets behind its end
+unfoldable pub overlaid : List ℕ → List ℕ → List ℕ
+overlaid old content = overwritten old 0 (octetAt content) (validLen (length content))
+
+abbrev pub valueOr : ℕ → Unsigned → ℕ
+valueOr old (unsigned.Value v) = v
+valueOr old unsigned.Refused = old
+
+-- a field replaces what it gives: an 84 of 4 octets or more the seconds, of 7 or more the fraction too; other tags are skipped
+unfoldable pub withField : SvFrame → ℕ → List ℕ → SvFrame
+withField f tag content =
+    record {
+      «src_mac» = f .«src_mac»;
+      «svid_len» = cond (eqb tag 0x80) (validLen (length content)) (f .«svid_len»);
+      svid = cond (eqb tag 0x80) (overlaid (f .svid) content) (f .svid);
+      «smp_cnt» = cond (eqb tag 0x82) (pairAt content 0) (f .«smp_cnt»);
+      «smp_rate» = cond (eqb tag 0x86) (valueOr (f .«smp_rate») (unsignedInt content)) (f .«smp_rate»);
+      «dataset_ref_len» = cond (eqb tag 0x81) (validLen (length content)) (f .«dataset_ref_len»);
+      «dataset_ref» = cond (eqb tag 0x81) (overlaid (f .«dataset_ref») content) (f .«dataset_ref»);
+      «timestamp_us» = f .«timestamp_us»;
+      «t_seconds_since_epoch» =
+          cond (eqb tag 0x84 && leb 4 (length content)) (bigEndian (take 4 content)) (f .«t_seconds_since_epoch»);
+      «t_fraction_of_second» =
+          cond (eqb tag 0x84 && leb 7 (length content)) (bigEndian (take 3 (drop 4 content))) (f .«t_fraction_of_second»);
+    }
+
+-- the fields of an ASDU in their order: of a repeated tag the last wins. An unreadable element and a field that does not fit refuse
+-- the frame, and so does a missing 82
+unfoldable pub fieldsFrom : SvFrame → Bool → Elements → ParsedSv
+fieldsFrom f counted ended = cond counted (record { answer = Frame; frame = f }) refusedSv
+fieldsFrom f counted unreadable = refusedSv
+fieldsFrom f counted (next tag content rest) =
+    cond (fieldFits tag content) (fieldsFrom (withField f tag content) (counted || eqb tag 0x82) rest) refusedSv
+
+-- a frame of which only the source and the time are known
+abbrev pub emptyFrame : List ℕ → ℕ → SvFrame
+emptyFrame source time =
+    record {
+      «src_mac» = source;
+      «svid_len» = 0;
+      svid = replicate 64 0;
+      «smp_cnt» = 0;
+      «smp_rate» = 0;
+      «dataset_ref_len» = 0;
+      «dataset_ref» = replicate 64 0;
+      «timestamp_us» = time;
+      «t_seconds_since_epoch» = 0;
+      «t_fraction_of_second» = 0;
+    }
+
+-- an outer 60 is opened, the first A2 is sought, and inside it an initial 30 is opened; what is empty has no 82
+unfoldable pub apduFrame : List ℕ → List ℕ → ℕ → ParsedSv
+apduFrame apdu source time =
+    fieldsFrom (emptyFrame source time) false (elements (opened 0x30 (firstContent 0xA2 (elements (opened 0x60 apdu)))))
+
+abbrev pub headerFrame : List ℕ → ℕ → List ℕ → Apdu → ParsedSv
+headerFrame octets time source (At start end) = apduFrame (take (end - start) (drop start octets)) source time
+headerFrame octets time source Refused = refusedSv
+
+unfoldable pub svFrame : List ℕ → ℕ → ParsedSv
+svFrame octets time = headerFrame octets time (header 0x88BA octets .«src_mac») (header 0x88BA octets .apdu)

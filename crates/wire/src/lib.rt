@@ -1,0 +1,5 @@
+// Reading frames: X.690 elements, the Ethernet header, and the sampled-values frame.
+pub mod element;
+pub mod header;
+pub mod number;
+pub mod sv;

@@ -1,0 +1,207 @@
+// The sampled-values frame, carried over from `parse_sv` and `decode_sv_apdu` in industrial/iec61850-monitor/src/lib.rs of craton-shield
+// a31d888527 (Apache-2.0) and changed.
+ghost use mathlib.Core.Path.{_≡_};
+ghost use mathlib.Core.Bool.{false};
+ghost use lib.ListN.{length};
+ghost use Rattle.records.specs.Name.{validLen};
+ghost use Rattle.wire.specs.Element.{elements};
+ghost use Rattle.wire.specs.Sv.{fieldFits, overlaid, withField, refusedSv, fieldsFrom, apduFrame, svFrame};
+use crate::element::Element;
+use crate::element::content;
+use crate::element::first_content;
+use crate::element::opened;
+use crate::element::parse_tlv;
+use crate::element::rest;
+use crate::header::Apdu;
+use crate::header::ETHERTYPE_SV;
+use crate::header::ethernet_header;
+use crate::number::Unsigned;
+use crate::number::big_endian;
+use crate::number::decode_unsigned_int;
+use crate::number::pair_at;
+use records::error::VsError;
+use records::frame::SvFrame;
+
+// Whether a frame was read.
+pub enum Parsed {
+    Frame,
+    Error(VsError),
+}
+
+// The frame that was read; the default frame beside an error.
+pub struct ParsedSv {
+    pub answer: Parsed,
+    pub frame: SvFrame,
+}
+
+// An unreadable frame.
+pub fn refused_sv() -> ParsedSv
+    ensures { λ r. ⌜ r ≡ refusedSv ⌝ }
+{
+    ParsedSv {
+        answer: Parsed::Error(VsError::InvalidInput),
+        frame: SvFrame::default(),
+    }
+}
+
+// Whether a field's content has a length, and a rate a value, that the frame takes.
+pub fn field_fits(tag: u8, content: &[u8]) -> bool
+    ensures { λ r. ⌜ r ≡ fieldFits tag (now (content .entry)) ⌝ }
+{
+    if tag == 0x80 {
+        return content.len() <= 64;
+    }
+    if tag == 0x81 {
+        return content.len() <= 64;
+    }
+    if tag == 0x82 {
+        return content.len() == 2;
+    }
+    if tag == 0x86 {
+        return match decode_unsigned_int(content) {
+            Unsigned::Value(_) => true,
+            Unsigned::Refused => false,
+        };
+    }
+    true
+}
+
+// A name's length, 64 at most.
+fn name_len(content: &[u8]) -> u8
+    ensures { λ r. ⌜ r ≡ validLen (length (now (content .entry))) ⌝ }
+{
+    if content.len() < 64 {
+        return content.len() as u8;
+    }
+    64
+}
+
+// Puts a content's octets over the front of a name's, of which the others stay.
+fn overlay(name: &mut [u8; 64], content: &[u8])
+    ensures { λ _. ⌜ now (name .exit) ≡ overlaid (now (name .entry)) (now (content .entry)) ⌝ }
+{
+    let n = name_len(content) as usize;
+    let mut i: usize = 0;
+    while i < n {
+        name[i] = content[i];
+        i += 1;
+    }
+}
+
+// A frame with the parts of its time that the content is long enough to give.
+fn with_time(frame: SvFrame, time: &[u8]) -> SvFrame
+    ensures { λ r. ⌜ r ≡ withField frame 0x84 (now (time .entry)) ⌝ }
+{
+    if time.len() < 4 {
+        return frame;
+    }
+    let mut out = frame;
+    out.t_seconds_since_epoch = big_endian(time);
+    if time.len() < 7 {
+        return out;
+    }
+    out.t_fraction_of_second = big_endian(content(time, 4, 3));
+    out
+}
+
+// A frame with its rate.
+fn with_rate(frame: SvFrame, rate: &[u8]) -> SvFrame
+    ensures { λ r. ⌜ r ≡ withField frame 0x86 (now (rate .entry)) ⌝ }
+{
+    let Unsigned::Value(value) = decode_unsigned_int(rate) else {
+        return frame;
+    };
+    let mut out = frame;
+    out.smp_rate = value;
+    out
+}
+
+// A frame with one more field of its ASDU.
+pub fn with_field(frame: SvFrame, tag: u8, field: &[u8]) -> SvFrame
+    ensures { λ r. ⌜ r ≡ withField frame tag (now (field .entry)) ⌝ }
+{
+    let mut out = frame;
+    if tag == 0x80 {
+        overlay(&mut out.svid, field);
+        out.svid_len = name_len(field);
+        return out;
+    }
+    if tag == 0x81 {
+        overlay(&mut out.dataset_ref, field);
+        out.dataset_ref_len = name_len(field);
+        return out;
+    }
+    if tag == 0x82 {
+        out.smp_cnt = pair_at(field, 0);
+        return out;
+    }
+    if tag == 0x84 {
+        return with_time(frame, field);
+    }
+    if tag == 0x86 {
+        return with_rate(frame, field);
+    }
+    frame
+}
+
+// The fields of an ASDU, one after the other, from a frame on.
+pub fn read_fields(asdu: &[u8], frame: SvFrame) -> ParsedSv
+    ensures { λ r. ⌜ r ≡ fieldsFrom frame false (elements (now (asdu .entry))) ⌝ }
+{
+    let mut unread = asdu;
+    let mut out = frame;
+    let mut counted = false;
+    while unread.len() > 0 {
+        let Element::Read {
+            tag,
+            start,
+            len,
+            end,
+        } = parse_tlv(unread)
+        else {
+            return refused_sv();
+        };
+        let field = content(unread, start, len);
+        if !field_fits(tag, field) {
+            return refused_sv();
+        }
+        out = with_field(out, tag, field);
+        if tag == 0x82 {
+            counted = true;
+        }
+        let more = rest(unread, end);
+        unread = more;
+    }
+    if !counted {
+        return refused_sv();
+    }
+    ParsedSv {
+        answer: Parsed::Frame,
+        frame: out,
+    }
+}
+
+// The frame of an APDU.
+pub fn decode_sv_apdu(apdu: &[u8], src_mac: [u8; 6], timestamp_us: u64) -> ParsedSv
+    ensures { λ r. ⌜ r ≡ apduFrame (now (apdu .entry)) «src_mac» «timestamp_us» ⌝ }
+{
+    let mut frame = SvFrame::default();
+    frame.src_mac = src_mac;
+    frame.timestamp_us = timestamp_us;
+    let asdus = first_content(opened(apdu, 0x60), 0xa2);
+    read_fields(opened(asdus, 0x30), frame)
+}
+
+// The frame that some octets hold, taken at a time.
+pub fn parse_sv(bytes: &[u8], timestamp_us: u64) -> ParsedSv
+    ensures { λ r. ⌜ r ≡ svFrame (now (bytes .entry)) «timestamp_us» ⌝ }
+{
+    let found = ethernet_header(bytes, ETHERTYPE_SV);
+    let apdu = found.apdu;
+    let Apdu::At { start, end } = apdu else {
+        return refused_sv();
+    };
+    let source = found.src_mac;
+    let octets = content(bytes, start, end - start);
+    decode_sv_apdu(octets, source, timestamp_us)
+}
