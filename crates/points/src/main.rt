@@ -1,5 +1,7 @@
 // Runs the reference points of document 01 and the published FNV-1a vectors, and writes what each gives; `stdout` has what each
 // must give, made by another program (docs/DECISIONS.md).
+mod frame_points;
+
 use libc::STDOUT_FILENO;
 use records::bucket::RateBucket;
 use records::hash::fnv1a_32;
@@ -98,4 +100,5 @@ fn main() {
     bucket_points();
     hash_points();
     ended_hash_points();
+    frame_points::write_frames();
 }

@@ -3,3 +3,4 @@ pub mod NumberLaws
 pub mod ElementLaws
 pub mod HeaderLaws
 pub mod SvLaws
+pub mod PointsHold

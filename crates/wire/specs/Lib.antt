@@ -2,3 +2,4 @@ pub mod Number
 pub mod Element
 pub mod Header
 pub mod Sv
+pub mod Points

@@ -1,0 +1,10 @@
+-- The rows of this crate hold.
+use mathlib.Core.Path.{refl}
+use Rattle.records.specs.Points.{Hold}
+use Rattle.wire.specs.Number.{bigEndianFrom}
+use Rattle.wire.specs.Element.{longForm, lengthOf, within, element}
+use Rattle.wire.specs.Points.{wirePoints}
+
+pub wire-points-hold : Hold wirePoints
+unfolding bigEndianFrom longForm lengthOf within element
+wire-points-hold = (refl, (refl, (refl, tt)))
