@@ -9,6 +9,11 @@ module _ {A : Type 0} {b : Bool} (x y : A) where
   pub cond-no : b ≡ false → cond b x y ≡ y
   cond-no e = ap (λ (t : Bool). cond t x y) e
 
+-- what holds of both choices holds of the choice
+pub cond-holds : {A : Type 0} (P : A → Type 0) (b : Bool) {x y : A} → P x → P y → P (cond b x y)
+cond-holds P true p q = p
+cond-holds P false p q = q
+
 pub and-false : (b : Bool) → b && false ≡ false
 and-false true = refl
 and-false false = refl

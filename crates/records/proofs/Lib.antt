@@ -6,6 +6,7 @@ pub mod HashLaws
 pub mod BucketLaws
 pub mod ScheduleLaws
 pub mod NameLaws
+pub mod OctetLaws
 pub mod SearchLaws
 pub mod AgeingLaws
 pub mod KeyedLists

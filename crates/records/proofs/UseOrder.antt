@@ -1,5 +1,5 @@
 -- The order of the slots of a table by last use: what a use does to it, and that the slot a new key takes is its last.
-use Prim.Native.Nat.{ℕ, zero, suc, _-_, _≤_, _<_, _^_, zero-le}
+use Prim.Native.Nat.{ℕ, suc, _-_, _≤_, _<_, _^_, zero-le}
 use mathlib.Core.Bool.{Bool, true, false, not, cond, true≢false}
 use mathlib.Core.List.{List, [], _∷_}
 use mathlib.Core.Logic.{by-cases, if-pos, if-neg}
@@ -8,9 +8,10 @@ use mathlib.Core.Path.{_≡_, refl, sym, ap, _∙_}
 use native.Mathlib.Decide.{ℕ-discrete, decLt}
 use native.Mathlib.Omega.{arith}
 use borrow.Author.Tests.{lt-ltb, not-true, not-false}
-use lib.ListN.{length, getD, set, take, replicate, length-set, List·getD-eq-default}
+use lib.ListN.{length, getD, set, take, length-set, List·getD-eq-default}
 use lib.Seq.{getD-set-same, getD-set-other, take-all}
 use Rattle.records.proofs.KeyedLists.{All, Pairwise, Distinct, pairwise-without, all-without, absent-without, without-absent, absent-none, all-found, lookup-without, length-at-most, length-at-least}
+use Rattle.records.proofs.Lists.{getD-constant}
 use Rattle.records.proofs.SearchLaws.{Searched, hit, miss, searched}
 use Rattle.records.proofs.AgeingLaws.{oldest-is}
 use Rattle.records.specs.declared.search.Found.{Found}
@@ -40,18 +41,12 @@ pub record Order (a : Ageing) (o : List (ℕ × ℕ)) : Type 0 where
   pub distinct : Distinct o
   pub descending : Pairwise (λ e f. f .1 < e .1) o
 
--- a column of one value, also beyond its end
-getD-constant : {A : Type 0} (n i : ℕ) (x : A) → getD (replicate n x) i x ≡ x
-getD-constant zero i x = refl
-getD-constant (suc n) zero x = refl
-getD-constant (suc n) (suc i) x = getD-constant n i x
-
 pub order-new : Order noUse []
 unfolding noUse
 order-new = record {
   active-length = refl;
   used-length = refl;
-  past = λ i. rw (getD-constant {A = ℕ} 16 i 0) (omega arith);
+  past = λ i. rw (getD-constant {E = ℕ} 16 i 0) (omega arith);
   uses = λ i. rw (getD-constant 16 i false);
   distinct = tt;
   descending = tt;

@@ -10,5 +10,6 @@ pub mod Bucket
 pub mod Search
 pub mod Ageing
 pub mod Name
+pub mod Legal
 pub mod Remembered
 pub mod Points

@@ -9,13 +9,16 @@ use borrow.Author.Tests.{leb-true, lt-ltb, le-ltb, le-leb, lt-leb, eq-eqb, ne-eq
 use lib.Dec.{eqb, ltb, leb}
 use lib.ListN.{length, take, drop, length-take, length-drop}
 use lib.Seq.{take-all}
+use Rattle.records.proofs.Booleans.{cond-holds}
+use Rattle.records.proofs.OctetLaws.{octets-none, octets-drop}
+use Rattle.records.specs.Legal.{Octets}
 use Rattle.records.specs.Name.{octetAt}
 use Rattle.wire.specs.declared.element.Length.{Length}
 use Rattle.wire.specs.declared.element.Length.the-variants.{Definite, Refused}
 use Rattle.wire.specs.declared.element.Element.{Element}
 use Rattle.wire.specs.declared.element.Element.the-variants.{Read, Unreadable}
 use Rattle.wire.specs.Number.{bigEndian}
-use Rattle.wire.proofs.PartLaws.{rest-is}
+use Rattle.wire.proofs.PartLaws.{rest-is, part-octets}
 use Rattle.wire.specs.Element.{limited, longForm, lengthOf, within, withLength, element, Elements, ended, unreadable, next, elementThen, elementsOf, elements, firstContent, opened, contentOf}
 
 module _ (tag start len total : ℕ) where
@@ -240,3 +243,35 @@ module _ (tag : ℕ) (octets : List ℕ) where
 
   pub opened-read : 0 < length octets → octetAt octets 0 ≡ tag → {found start len end : ℕ} → element octets ≡ Read found start len end → opened tag octets ≡ take len (drop start octets)
   opened-read h e q = opened-same h e ∙ ap (contentOf octets) q
+
+-- the contents of elements are octets
+abbrev pub Contents : Elements → Type 0
+Contents ended = Unit
+Contents unreadable = Unit
+Contents (next tag content rest) = Octets content × Contents rest
+
+-- what is read from octets is octets
+pub elements-octets : (n : ℕ) (octets : List ℕ) → Octets octets → Contents (elementsOf n octets)
+unfolding elementsOf
+elements-octets zero octets o = tt
+elements-octets (suc n) [] o = tt
+elements-octets (suc n) (first ∷ more) o = go (element (first ∷ more)) (elements-octets n)
+  where
+    go : (e : Element) → ((l : List ℕ) → Octets l → Contents (elementsOf n l)) → Contents (elementThen (elementsOf n) (first ∷ more) e)
+    go Unreadable f = tt
+    go (Read tag start len end) f = (part-octets (first ∷ more) o start len, f (drop end (first ∷ more)) (octets-drop (first ∷ more) o end))
+
+pub first-octets : (tag : ℕ) (e : Elements) → Contents e → Octets (firstContent tag e)
+unfolding firstContent
+first-octets tag ended c = octets-none
+first-octets tag unreadable c = octets-none
+first-octets tag (next found content rest) c = cond-holds Octets (eqb found tag) (c .0) (first-octets tag rest (c .1))
+
+pub opened-octets : (tag : ℕ) (octets : List ℕ) → Octets octets → Octets (opened tag octets)
+unfolding opened
+opened-octets tag [] o = octets-none
+opened-octets tag (first ∷ more) o = cond-holds Octets (eqb first tag) (go (element (first ∷ more))) o
+  where
+    go : (e : Element) → Octets (contentOf (first ∷ more) e)
+    go (Read found start len end) = part-octets (first ∷ more) o start len
+    go Unreadable = octets-none

@@ -4,3 +4,4 @@ pub mod ElementLaws
 pub mod HeaderLaws
 pub mod SvLaws
 pub mod PointsHold
+pub mod SvLegal

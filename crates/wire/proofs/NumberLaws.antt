@@ -1,8 +1,8 @@
 -- Laws of numbers in octets, one octet at a time.
 use mathlib.Core.Path.{_≡_, refl, sym, _∙_, ap}
-use mathlib.Core.List.{List}
-use Prim.Native.Nat.{ℕ, _+_, _*_, _^_, _≤_, _<_, min}
-use native.Mathlib.Nat.{pow-suc, pow-le-pow-right}
+use mathlib.Core.List.{List, [], _∷_}
+use Prim.Native.Nat.{ℕ, suc, _+_, _*_, _^_, _≤_, _<_, min}
+use native.Mathlib.Nat.{add-zero, pow-suc, pow-le-pow-right}
 use native.Mathlib.Numerals.{add-one}
 use native.Mathlib.Omega.{arith}
 use mathlib.Core.Bool.{cond}
@@ -10,6 +10,7 @@ use borrow.Author.Tests.{le-leb, lt-leb}
 use lib.Dec.{leb}
 use lib.ListN.{length, getD, take, drop, length-take, drop-of-length-le}
 use lib.Seq.{drop-cons, getD-take, take-all}
+use Rattle.records.specs.Legal.{Octets}
 use Rattle.records.specs.Name.{octetAt}
 use Rattle.wire.specs.Number.{bigEndianFrom, bigEndian, unsignedInt}
 use Rattle.wire.specs.declared.number.Unsigned.the-variants.{Value, Refused}
@@ -30,6 +31,19 @@ module _ (octets : List ℕ) (value i : ℕ) where
 -- a number of i octets and one more
 pub number-fits : (i value octet : ℕ) → value < 256 ^ i → octet < 256 → value * 256 + octet < 256 ^ (i + 1)
 number-fits i value octet h l = rw (add-one, pow-suc) (omega arith)
+
+-- a number of i octets and all that follow
+number-all-fits : (octets : List ℕ) → Octets octets → (i value : ℕ) → value < 256 ^ i → bigEndianFrom value octets < 256 ^ (i + length octets)
+unfolding bigEndianFrom
+number-all-fits [] o i value h = rw add-zero h
+number-all-fits (octet ∷ rest) o i value h =
+    let e : i + suc (length rest) ≡ i + 1 + length rest = omega arith in
+    rw e (number-all-fits rest (λ k. o (suc k)) (i + 1) (value * 256 + octet) (number-fits i value octet h (o 0)))
+
+-- a number of n octets at most
+pub number-below : (octets : List ℕ) → Octets octets → (n : ℕ) → length octets ≤ n → bigEndian octets < 256 ^ n
+number-below octets o n h =
+    omega (arith, number-all-fits octets o 0 0 (omega arith), pow-le-pow-right {n = 256} (omega arith) {i = 0 + length octets} {j = n} (omega arith))
 
 -- three octets at most leave room for a fourth in 32 bits
 pub fourth-fits : (i value : ℕ) → i < 4 → value < 256 ^ i → value < 2 ^ 24

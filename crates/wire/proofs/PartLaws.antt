@@ -5,6 +5,8 @@ use Prim.Native.Nat.{ℕ, _+_, _-_, _≤_}
 use native.Mathlib.Omega.{arith}
 use lib.ListN.{length, take, drop, length-drop, drop-of-length-le}
 use lib.Seq.{take-all, take-nil}
+use Rattle.records.proofs.OctetLaws.{octets-take, octets-drop}
+use Rattle.records.specs.Legal.{Octets}
 
 module _ (l : List ℕ) where
   pub rest-of-all : drop (length l) l ≡ []
@@ -28,3 +30,6 @@ module _ (l : List ℕ) where
 
   pub content-is : (start len : ℕ) → take (start + len - start) (drop start l) ≡ take len (drop start l)
   content-is start len = let e : start + len - start ≡ len = omega arith in rw e
+
+  pub part-octets : Octets l → (start len : ℕ) → Octets (take len (drop start l))
+  part-octets o start len = octets-take (drop start l) (octets-drop l o start) len
