@@ -1,6 +1,6 @@
 -- A table of slots and ticks, as long as its tick has not wrapped, represents the list of its entries by last use: what its history leaves remembered.
 use Prim.Native.Nat.{ℕ, suc, _+_, _<_, _^_, zero-le}
-use mathlib.Core.Bool.{Bool, true, false, _&&_, false≢true, true≢false}
+use mathlib.Core.Bool.{Bool, true, false, _&&_, true≢false}
 use mathlib.Core.List.{List, [], _∷_, foldl, reverse}
 use mathlib.Core.Logic.{_≢_, _↔_}
 use mathlib.Core.Option.{Option, none, some}
@@ -9,7 +9,7 @@ use native.Mathlib.Decide.{ℕ-discrete}
 use native.Mathlib.Omega.{arith}
 use lib.ListN.{length, take, length-map}
 use lib.Seq.{take-all}
-use Rattle.records.proofs.UseOrder.{inUse, lastUse, newSlot, Order, order-new, in-use-below, order-entry, tick-used, order-used, order-short, new-slot}
+use Rattle.records.proofs.UseOrder.{inUse, lastUse, Order, order-new, in-use-below, order-entry, tick-used, order-used, order-short, new-slot}
 use Rattle.records.proofs.Booleans.{and-both}
 use Rattle.records.proofs.ByLastUse.{touch, touch-distinct, by-last-use}
 use Rattle.records.proofs.KeyedLists.{All, Absent, Distinct, lookup-absent, absent-without, without-absent, all-found, entriesOf, entries-other, entries-absent, entries-take, entries-without, entries-lookup}
@@ -18,7 +18,7 @@ use Rattle.records.specs.declared.search.Found.{Found}
 use Rattle.records.specs.declared.search.Found.the-variants.{At, Nothing}
 use Rattle.records.specs.declared.ageing.Ageing.{Ageing}
 use Rattle.records.specs.declared.ageing.EqualAges.{EqualAges}
-use Rattle.records.specs.Ageing.{noUse, usedAt}
+use Rattle.records.specs.Ageing.{newSlot, noUse, usedAt}
 use Rattle.records.specs.Remembered.{lookup, without, after, remembered}
 use Rattle.records.specs.Search.{first, slotOr}
 

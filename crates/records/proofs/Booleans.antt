@@ -1,6 +1,6 @@
 -- Choices and conjunctions whose tests are known. `rw` by a test would rewrite the records that hold its numbers too.
 use mathlib.Core.Path.{_≡_, refl, ap}
-use mathlib.Core.Bool.{Bool, true, false, _&&_, cond, false≢true}
+use mathlib.Core.Bool.{Bool, true, false, _&&_, _||_, cond, false≢true}
 
 module _ {A : Type 0} {b : Bool} (x y : A) where
   pub cond-yes : b ≡ true → cond b x y ≡ x
@@ -25,3 +25,11 @@ and-true false = refl
 pub and-both : (a b : Bool) → a && b ≡ true → (a ≡ true) × (b ≡ true)
 and-both true b e = (refl, e)
 and-both false b e = absurd (false≢true e)
+
+pub or-true : (b : Bool) → b || true ≡ true
+or-true true = refl
+or-true false = refl
+
+pub or-false : (b : Bool) → b || false ≡ b
+or-false true = refl
+or-false false = refl

@@ -10,10 +10,10 @@ use native.Mathlib.Omega.{arith}
 use native.Mathlib.Decide.{ℕ-discrete, decLt}
 use borrow.Author.Tests.{lt-ltb, le-ltb, eq-eqb, ne-eqb, eqb-true}
 use lib.Dec.{eqb, ltb}
-use lib.ListN.{length, getD, set, take, drop, List·getD-append, length-append, length-set, drop-of-length-le}
+use lib.ListN.{length, getD, set, drop, List·getD-append, length-append, length-set, drop-of-length-le}
 use lib.Seq.{drop-cons, set-at, getD-at, getD-take, getD-set-same, getD-set-other, length-take-le, ext-getD}
 use Rattle.records.proofs.Booleans.{cond-yes, and-true, and-false, and-both}
-use Rattle.records.specs.Name.{tabulate, octetAt, padded, agree, overwritten, octetsStored}
+use Rattle.records.specs.Name.{validLen, nameOf, tabulate, octetAt, padded, agree, overwritten, octetsStored}
 
 module _ (f g : ℕ → ℕ) (i : ℕ) where
   pub agree-differ : (f i ≡ g i → ⊥) → agree f g (i + 1) ≡ false
@@ -94,26 +94,32 @@ module _ (f g : ℕ → ℕ) where
   tabulate-same zero h = refl
   tabulate-same (suc n) h = rw (tabulate-same n (λ k l. h k (omega arith)), h n (omega arith))
 
--- equal names are kept as equal octets, and only they
-module _ (a b : List ℕ) (n : ℕ) (la : length a ≡ 64) (lb : length b ≡ 64) (h : n ≤ 64) where
-  pub padded-same : take n a ≡ take n b → padded a n ≡ padded b n
+-- names of one stated length are kept as equal octets exactly when they are equal
+module _ (a b : List ℕ) (n : ℕ) (la : length a ≡ 64) (lb : length b ≡ 64) where
+  pub padded-same : nameOf a n ≡ nameOf b n → padded a n ≡ padded b n
   unfolding padded
-  padded-same e = tabulate-same _ _ 64 (λ k l. go k (decLt k n))
+  padded-same e = tabulate-same _ _ 64 (λ k l. go k l (decLt k n))
     where
-      go : (k : ℕ) → Dec (k < n) → cond (ltb k n) (octetAt a k) 0 ≡ cond (ltb k n) (octetAt b k) 0
-      go k (yes l) = rw (lt-ltb k n l, ← getD-take n a k 0 l, ← getD-take n b k 0 l, e)
-      go k (no l) = rw (le-ltb k n (omega arith))
+      go : (k : ℕ) → k < 64 → Dec (k < n) → cond (ltb k n) (octetAt a k) 0 ≡ cond (ltb k n) (octetAt b k) 0
+      go k h (yes l) =
+          let m : k < validLen n = omega arith in
+          rw (lt-ltb k n l, ← getD-take (validLen n) a k 0 m, ← getD-take (validLen n) b k 0 m, e)
+      go k h (no l) = rw (le-ltb k n (omega arith))
 
-  pub padded-only : padded a n ≡ padded b n → take n a ≡ take n b
+  pub padded-only : padded a n ≡ padded b n → nameOf a n ≡ nameOf b n
   padded-only e =
-      ext-getD 0 (take n a) (take n b) (length-take-le n a (omega arith) ∙ sym (length-take-le n b (omega arith)))
-      (λ k l. go k (omega (arith, length-take-le n a (omega arith))))
+      ext-getD 0 (nameOf a n) (nameOf b n) (size a la ∙ sym (size b lb)) (λ k l. go k (omega (arith, size a la)))
     where
-      at : (c : List ℕ) (k : ℕ) → k < n → octetAt (padded c n) k ≡ octetAt c k
-      at c k l = padded-at c n k (omega arith) ∙ cond-yes _ _ (lt-ltb k n l)
+      size : (c : List ℕ) → length c ≡ 64 → length (nameOf c n) ≡ validLen n
+      size c h = length-take-le (validLen n) c (omega arith)
 
-      go : (k : ℕ) → k < n → octetAt (take n a) k ≡ octetAt (take n b) k
-      go k l = rw (getD-take n a k 0 l, getD-take n b k 0 l) (sym (at a k l) ∙ ap (λ (c : List ℕ). octetAt c k) e ∙ at b k l)
+      at : (c : List ℕ) (k : ℕ) → k < validLen n → octetAt (padded c n) k ≡ octetAt c k
+      at c k l = padded-at c n k (omega arith) ∙ cond-yes _ _ (lt-ltb k n (omega arith))
+
+      go : (k : ℕ) → k < validLen n → octetAt (nameOf a n) k ≡ octetAt (nameOf b n) k
+      go k l =
+          rw (getD-take (validLen n) a k 0 l, getD-take (validLen n) b k 0 l)
+          (sym (at a k l) ∙ ap (λ (c : List ℕ). octetAt c k) e ∙ at b k l)
 
 -- ---- what a slot holds after a name is stored
 

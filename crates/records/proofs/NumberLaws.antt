@@ -111,7 +111,8 @@ code-back code.BroadcastFlood = refl
 pub code-injective : (a b : AlertCode) → codeNumber a ≡ codeNumber b → a ≡ b
 code-injective = read-back codeNumber (λ n. getD codes n code.Unspecified) code-back
 
-service-back : (a : MmsServiceType) → serviceOf (serviceNumber a) ≡ a
+-- a service is that of its number
+pub service-back : (a : MmsServiceType) → serviceOf (serviceNumber a) ≡ a
 unfolding serviceOf
 service-back service.Read = refl
 service-back service.Write = refl

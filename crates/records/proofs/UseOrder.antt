@@ -1,5 +1,5 @@
 -- The order of the slots of a table by last use: what a use does to it, and that the slot a new key takes is its last.
-use Prim.Native.Nat.{ℕ, suc, _-_, _≤_, _<_, _^_, zero-le}
+use Prim.Native.Nat.{ℕ, suc, _≤_, _<_, _^_, zero-le, _-_}
 use mathlib.Core.Bool.{Bool, true, false, not, cond, true≢false}
 use mathlib.Core.List.{List, [], _∷_}
 use mathlib.Core.Logic.{by-cases, if-pos, if-neg}
@@ -17,7 +17,7 @@ use Rattle.records.proofs.AgeingLaws.{oldest-is}
 use Rattle.records.specs.declared.search.Found.{Found}
 use Rattle.records.specs.declared.ageing.Ageing.{Ageing}
 use Rattle.records.specs.declared.ageing.EqualAges.{EqualAges}
-use Rattle.records.specs.Ageing.{nextTick, ageAt, oldest, firstFree, slotFor, noUse, usedAt}
+use Rattle.records.specs.Ageing.{nextTick, ageAt, oldest, firstFree, slotFor, newSlot, noUse, usedAt}
 use Rattle.records.specs.Remembered.{lookup, without}
 use Rattle.records.specs.Search.{slotOr}
 
@@ -27,10 +27,6 @@ inUse a i = getD (a .active) i false
 
 abbrev pub lastUse : Ageing → ℕ → ℕ
 lastUse a i = getD (a .«last_used») i 0
-
--- the slot that a new key takes
-abbrev pub newSlot : EqualAges → Ageing → ℕ
-newSlot rule a = slotFor rule (nextTick (a .tick)) (a .active) (a .«last_used»)
 
 -- o has the slots in use, each with the tick of its last use, the latest first
 pub record Order (a : Ageing) (o : List (ℕ × ℕ)) : Type 0 where

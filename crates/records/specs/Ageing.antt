@@ -1,5 +1,5 @@
 -- Ageing (01, "Remembered tables": a full table gives up the entry with the greatest wrapping age).
-use Prim.Native.Nat.{ℕ, zero, suc, _+_, _-_, _%_, _^_}
+use Prim.Native.Nat.{ℕ, zero, suc, _+_, _%_, _^_, _-_}
 use mathlib.Core.Bool.{Bool, true, false, not, cond}
 use mathlib.Core.List.{List}
 use lib.Dec.{ltb, leb}
@@ -32,7 +32,7 @@ unfoldable pub oldestOf : EqualAges → (ℕ → ℕ) → ℕ → ℕ
 oldestOf rule age zero = 0
 oldestOf rule age (suc n) = older rule age (oldestOf rule age n) n
 
--- the slot of the greatest age, from the column of last uses
+-- the slot of the greatest age at the tick of the use that is made, from the column of last uses
 unfoldable pub oldest : EqualAges → ℕ → List ℕ → ℕ
 oldest rule tick used = oldestOf rule (λ i. ageAt tick (getD used i 0)) 16
 
@@ -40,9 +40,13 @@ oldest rule tick used = oldestOf rule (λ i. ageAt tick (getD used i 0)) 16
 unfoldable pub firstFree : List Bool → Found
 firstFree active = first (λ i. not (getD active i false))
 
--- the slot that a new key takes
+-- the slot that a new key takes at the tick of the use that is made
 unfoldable pub slotFor : EqualAges → ℕ → List Bool → List ℕ → ℕ
 slotFor rule tick active used = slotOr (oldest rule tick used) (firstFree active)
+
+-- the slot that a new key takes in a table: the use that is made is at its next tick
+abbrev pub newSlot : EqualAges → Ageing → ℕ
+newSlot rule a = slotFor rule (nextTick (a .tick)) (a .active) (a .«last_used»)
 
 -- a table at the start
 unfoldable pub noUse : Ageing

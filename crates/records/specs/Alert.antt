@@ -9,6 +9,7 @@ use Rattle.records.specs.declared.alert.AlertCode.{AlertCode}
 use Rattle.records.specs.declared.alert.AlertCode.the-variants.{Unspecified, CrcFailure, WriteProtection, ReplayDetected, RateExceeded, FloodAbuse, PolicyViolation, UnknownFunctionCode, DiagnosticBlocked, EndpointBlocked, SecurityModeViolation, SessionAnomaly, AlarmFlood, SequenceAnomaly, PayloadOverflow, InvalidProtocol, NoMatchingRule, MessageTypeBlocked, ProviderStateChange, DcpBlocked, MessageSizeExceeded, AddressViolation, UnknownSession, ResourceExhausted, ObjectAccessDenied, CipServiceBlocked, SvReplay, SvRateAnomaly, IedMismatch, CbHijack, RetransmissionAnomaly, TimeSyncSpoofing, ClockRegression, UnitNotAllowed, InvalidUnitId, TxIdReplay, BadLinkCrc, TransportSeqAnomaly, SaDowngrade, IinFlagSpoofing, ForeignDevice, NpduLoop, BroadcastFlood}
 use Rattle.records.specs.declared.alert.CodedAlert.{CodedAlert}
 
+-- the number of each severity
 abbrev pub severityNumber : AlertSeverity → ℕ
 severityNumber Info = 0
 severityNumber Low = 1
@@ -20,6 +21,7 @@ severityNumber Critical = 4
 unfoldable pub denies : AlertSeverity → Bool
 denies s = leb (severityNumber High) (severityNumber s)
 
+-- the number of each alert code
 abbrev pub codeNumber : AlertCode → ℕ
 codeNumber Unspecified = 0
 codeNumber CrcFailure = 1

@@ -1,5 +1,5 @@
 -- The token bucket (01, "Bucket": capacity per second, tokens, time of last refill in µs).
-use Prim.Native.Nat.{ℕ, _+_, _-_, _*_, _/_, _^_, min}
+use Prim.Native.Nat.{ℕ, _+_, _*_, _/_, _^_, min, _-_}
 use mathlib.Core.Bool.{Bool, cond}
 use lib.Dec.{ltb, eqb}
 use Rattle.records.specs.declared.bucket.RateBucket.{RateBucket}
@@ -23,6 +23,7 @@ refilledBy b time added =
     cond (ltb time (b .«last_refill_us»)) (bucketWith b (b .capacity) time)
     (cond (eqb added 0) b (bucketWith b (tokensWith (b .tokens) added (b .capacity)) time))
 
+-- refilled at a time, by the time since the last refill
 unfoldable pub refilled : RateBucket → ℕ → RateBucket
 refilled b time = refilledBy b time (refill (time - b .«last_refill_us») (b .capacity))
 

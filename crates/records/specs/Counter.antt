@@ -1,5 +1,5 @@
 -- Counters (01, "Alert and result": the totals saturate; alert numbers wrap in 64 bits).
-use Prim.Native.Nat.{ℕ, _+_, _-_, _%_, _^_, min}
+use Prim.Native.Nat.{ℕ, _+_, _%_, _^_, min, _-_}
 
 -- a total after one more
 abbrev pub saturated : ℕ → ℕ

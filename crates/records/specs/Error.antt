@@ -3,6 +3,7 @@ use Prim.Native.Nat.{ℕ}
 use Rattle.records.specs.declared.error.VsError.{VsError}
 use Rattle.records.specs.declared.error.VsError.the-variants.{CryptoError, BusError, PolicyViolation, IntegrityFailure, AuthenticationFailure, Timeout, ResourceExhausted, NotInitialized, StorageError, InvalidInput, InvalidConfig, NotFound, OverlappingRegion, KeyExpired, KeyRevoked}
 
+-- the number of each error
 abbrev pub errorNumber : VsError → ℕ
 errorNumber CryptoError = 0
 errorNumber BusError = 1

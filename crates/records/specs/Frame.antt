@@ -6,6 +6,7 @@ use Rattle.records.specs.declared.frame.MmsFrame.{MmsFrame}
 use Rattle.records.specs.declared.frame.GooseFrame.{GooseFrame}
 use Rattle.records.specs.declared.frame.SvFrame.{SvFrame}
 
+-- an MMS frame of no request: a read
 abbrev pub defaultMms : MmsFrame
 defaultMms =
     record {
@@ -19,6 +20,7 @@ defaultMms =
       «control_block_is_goose» = true;
     }
 
+-- a GOOSE frame of zeros
 abbrev pub defaultGoose : GooseFrame
 defaultGoose =
     record {
@@ -33,6 +35,7 @@ defaultGoose =
       «t_fraction_of_second» = 0;
     }
 
+-- an SV frame of zeros
 abbrev pub defaultSv : SvFrame
 defaultSv =
     record {

@@ -7,9 +7,11 @@ use lib.Bits.{bitXor}
 unfoldable pub hashStep : ℕ → ℕ → ℕ
 hashStep h octet = bitXor octet h * 0x01000193 % 2 ^ 32
 
+-- the hash after more octets, one by one
 unfoldable pub hashFrom : ℕ → List ℕ → ℕ
 hashFrom h [] = h
 hashFrom h (octet ∷ rest) = hashFrom (hashStep h octet) rest
 
+-- the hash of some octets
 unfoldable pub fnv1a : List ℕ → ℕ
 fnv1a octets = hashFrom 0x811C9DC5 octets

@@ -9,6 +9,7 @@ use Rattle.records.specs.Schedule.{defaultSchedule, expectedInterval}
 use Rattle.records.specs.Hash.{fnv1a}
 use Rattle.records.specs.Bucket.{allows}
 
+-- what is computed, and what it must be
 pub record Point : Type 0 where
   pub computed : List ℕ
   pub expected : List ℕ
@@ -31,6 +32,7 @@ Hold (p ∷ rest) = (p .computed ≡ p .expected) × Hold rest
 abbrev emptyTen : RateBucket
 emptyTen = record { tokens = 0; capacity = 10; «last_refill_us» = 0 }
 
+-- the starred points of this crate
 abbrev pub recordsPoints : List Point
 recordsPoints =
     number (fnv1a []) 0x811C9DC5

@@ -1,5 +1,5 @@
 -- The retransmission schedule (01, "Remembered tables", GOOSE stream).
-use Prim.Native.Nat.{ℕ, _+_, _-_, _*_, _/_, _^_, min}
+use Prim.Native.Nat.{ℕ, _+_, _*_, _/_, _^_, min, _-_}
 use mathlib.Core.Bool.{Bool}
 use lib.Dec.{leb}
 use Rattle.records.specs.declared.schedule.RetxSchedule.{RetxSchedule}

@@ -7,6 +7,7 @@ use lib.ListN.{getD}
 use Rattle.records.specs.declared.service.MmsServiceType.{MmsServiceType}
 use Rattle.records.specs.declared.service.MmsServiceType.the-variants.{Read, Write, GetNameList, GetVariableAccessAttributes, DefineNamedVariable, DeleteNamedVariable, GetDataValues, SetDataValues, Initiate, Conclude, SelectControl, CancelControl, Unknown}
 
+-- the number of each service
 abbrev pub serviceNumber : MmsServiceType → ℕ
 serviceNumber Read = 1
 serviceNumber Write = 2

@@ -59,7 +59,7 @@ pub fn first_free(active: &[bool; 16]) -> Found
     }
 }
 
-// The slot of the greatest age.
+// The slot of the greatest age, `tick` being that of the use that is made (`next_tick` of the table's).
 pub fn oldest(last_used: &[u32; 16], tick: u32, rule: EqualAges) -> usize
     ensures { λ r. ⌜ r ≡ oldest rule tick (now («last_used» .entry)) ⌝ }
 {
@@ -77,7 +77,7 @@ pub fn oldest(last_used: &[u32; 16], tick: u32, rule: EqualAges) -> usize
     slot
 }
 
-// The slot that a new key takes: a free one, or that of the oldest entry.
+// The slot that a new key takes: a free one, or that of the oldest entry; `tick` as above.
 pub fn slot_for<'a>(
     active: &'a [bool; 16],
     last_used: &'a [u32; 16],

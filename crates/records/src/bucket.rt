@@ -25,14 +25,14 @@ pub fn refill(elapsed_us: u64, capacity: u16) -> u64
 }
 
 // The tokens after a refill, capacity at most.
-pub fn tokens_with(tokens: u16, refill: u64, capacity: u16) -> u16
-    ensures { λ r. ⌜ r ≡ tokensWith tokens refill capacity ⌝ }
+pub fn tokens_with(tokens: u16, added: u64, capacity: u16) -> u16
+    ensures { λ r. ⌜ r ≡ tokensWith tokens added capacity ⌝ }
 {
     let most = capacity as u64;
-    if most <= refill {
+    if most <= added {
         return capacity;
     }
-    let sum = (tokens as u64) + refill;
+    let sum = (tokens as u64) + added;
     if most <= sum {
         return capacity;
     }

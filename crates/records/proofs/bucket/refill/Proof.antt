@@ -1,6 +1,5 @@
 -- `refill` meets its contract.
 use mathlib.Core.Path.{sym}
-use Prim.Native.Nat.{_<_}
 use native.Mathlib.Omega.{arith}
 use borrow.Author.Needs.{needs}
 use Rattle.records.proofs.BucketLaws.{refill-none, refill-most, product-fits, refill-is}

@@ -1,16 +1,15 @@
 -- `padded` meets its contract. The invariant: the places passed are written.
-use mathlib.Core.Path.{_≡_, refl, sym, _∙_, ap}
+use mathlib.Core.Path.{_≡_, refl, sym, _∙_}
 use mathlib.Core.Bool.{cond}
 use mathlib.Core.Logic.{⊎-elim}
-use Prim.Native.Nat.{ℕ, _≤_, _-_}
+use Prim.Native.Nat.{_≤_, _-_}
 use native.Mathlib.Omega.{arith}
-use borrow.Author.Needs.{needs}
 use borrow.Author.Tests.{lt-ltb, le-ltb}
 use lib.Dec.{ltb}
-use lib.ListN.{length, replicate, length-replicate}
+use lib.ListN.{replicate}
 use Rattle.records.specs.Name.{octetAt, overwritten, padded}
 use Rattle.records.proofs.Booleans.{cond-yes, cond-no}
-use Rattle.records.proofs.NameLaws.{overwritten-more, length-overwritten, overwritten-whole}
+use Rattle.records.proofs.NameLaws.{overwritten-more, overwritten-whole}
 use Rattle.records.proofs.name.padded.Statement.{statement}
 use Rattle.records.proofs.name.padded.Tie as tie
 use Rattle.records.proofs.name.padded.Reads as reads

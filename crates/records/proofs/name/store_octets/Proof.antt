@@ -1,10 +1,8 @@
 -- `store_octets` meets its contract. The invariant: the places passed are written.
-use mathlib.Core.Path.{_≡_, refl, sym, _∙_, ap}
-use Prim.Native.Nat.{ℕ, _≤_, _-_, _+_, _*_}
+use mathlib.Core.Path.{_≡_, refl, sym, _∙_}
+use Prim.Native.Nat.{_≤_, _*_, _-_}
 use native.Mathlib.Omega.{arith}
-use borrow.Author.Needs.{needs}
 use borrow.Author.Tests.{lt-ltb, le-ltb}
-use lib.ListN.{length}
 use Rattle.records.specs.Name.{octetAt, overwritten, octetsStored}
 use Rattle.records.proofs.Booleans.{cond-yes}
 use Rattle.records.proofs.NameLaws.{overwritten-more}

@@ -1,6 +1,6 @@
 -- `RateBucket::consumed` meets its contract.
-use mathlib.Core.Path.{_≡_, _∙_, ap}
 use Prim.Native.Nat.{_-_}
+use mathlib.Core.Path.{_≡_, _∙_, ap}
 use native.Mathlib.Omega.{arith}
 use borrow.Author.Needs.{needs}
 use Rattle.records.specs.declared.bucket.RateBucket.{RateBucket}

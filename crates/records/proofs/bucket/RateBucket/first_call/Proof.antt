@@ -1,6 +1,6 @@
 -- `RateBucket::first_call` meets its contract.
-use mathlib.Core.Path.{_≡_, ap}
 use Prim.Native.Nat.{_-_}
+use mathlib.Core.Path.{_≡_}
 use native.Mathlib.Omega.{arith}
 use borrow.Author.Needs.{needs}
 use Rattle.records.specs.Bucket.{firstCall, bucketWith}

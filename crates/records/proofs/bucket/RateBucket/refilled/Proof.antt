@@ -1,6 +1,5 @@
 -- `RateBucket::refilled` meets its contract.
 use mathlib.Core.Path.{sym, _∙_, ap}
-use native.Mathlib.Omega.{arith}
 use borrow.Author.Needs.{needs}
 use borrow.Author.Tests.{lt-ltb, le-ltb, eq-eqb, ne-eqb}
 use Rattle.records.specs.Bucket.{tokensWith, bucketWith, refilledBy, refilled}

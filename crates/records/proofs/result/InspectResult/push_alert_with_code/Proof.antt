@@ -1,5 +1,5 @@
 -- `InspectResult::push_alert_with_code` meets its contract.
-use mathlib.Core.Path.{_≡_, sym, _∙_}
+use mathlib.Core.Path.{sym, _∙_}
 use borrow.Author.Needs.{needs}
 use borrow.Author.Tests.{lt-ltb, le-ltb}
 use Rattle.records.specs.Result.{counted, withAlert, truncated, pushed}
