@@ -1,9 +1,10 @@
 -- Laws of keyed lists: the value of a key, the list without a key, each key once.
-use Prim.Native.Nat.{ℕ, zero, suc, _+_, _≤_, _<_, compare·suc-suc}
+use Prim.Native.Nat.{ℕ, zero, suc, _+_, max, _≤_, _<_, compare·suc-suc}
 use mathlib.Core.Bool.{cond}
-use mathlib.Core.List.{List, [], _∷_, map}
-use mathlib.Core.Logic.{_≢_, by-cases, if-pos, if-neg}
-use mathlib.Core.Option.{Option, none, some, Option·none-ne-some, Option·some-ne-none}
+use mathlib.Core.HLevel.{×-discrete}
+use mathlib.Core.List.{List, [], _∷_, _++_, map}
+use mathlib.Core.Logic.{_≢_, _↔_, by-cases, if-pos, if-neg}
+use mathlib.Core.Option.{Option, none, some, Option·none-ne-some, Option·some-ne-none, Option·some-injective}
 use mathlib.Core.Path.{_≡_, refl, sym, ap, _∙_}
 use native.Mathlib.Decide.{ℕ-discrete}
 use native.Mathlib.Omega.{arith}
@@ -34,6 +35,10 @@ module _ {K A : Type 0} where
   all-take P zero l a = tt
   all-take P (suc n) [] a = tt
   all-take P (suc n) (e ∷ l) a = (a .0, all-take P n l (a .1))
+
+  pub all-append : (P : K × A → Type 0) (l m : List (K × A)) → All P (l ++ m) ↔ (All P l × All P m)
+  all-append P [] m = (λ a. (tt, a), λ a. a .1)
+  all-append P (e ∷ l) m = let r = all-append P l m in (λ a. ((a .0, r .0 (a .1) .0), r .0 (a .1) .1), λ a. (a .0 .0, r .1 (a .0 .1, a .1)))
 
   pub pairwise-take : (R : K × A → K × A → Type 0) (n : ℕ) (l : List (K × A)) → Pairwise R l → Pairwise R (take n l)
   pairwise-take R zero l a = tt
@@ -104,6 +109,23 @@ module _ {K A : Type 0} (dec : Discrete K) where
       by-cases (dec k (e .0))
       (λ p. simp (if-pos, without-absent k l (rw (← p) at (d .0))) (omega arith))
       (λ p. simp if-neg (omega (arith, length-without k l (d .1))))
+
+  -- taking out a key that is there leaves a shorter list, whether or not the keys are distinct
+  pub without-shorter : (k : K) (l : List (K × A)) → present (lookup dec k l) + length (without dec k l) ≤ length l
+  without-shorter k [] = omega arith
+  without-shorter k (e ∷ l) = by-cases (dec k (e .0)) (λ p. simp if-pos (omega (arith, without-shorter k l))) (λ p. simp if-neg (omega (arith, without-shorter k l)))
+
+  -- of more distinct keys than the list has entries, one is absent from it
+  pub absent-key : (f : ℕ → K) → ((i j : ℕ) → f i ≡ f j → i ≡ j) → (m : ℕ) (l : List (K × A)) → length l < m → (i : ℕ) × (i < m) × (lookup dec (f i) l ≡ none)
+  absent-key f inj zero l h = absurd (omega arith)
+  absent-key f inj (suc m) l h = go (lookup dec (f m) l) refl (absent-key f inj m (without dec (f m) l))
+    where
+      go : (o : Option A) → lookup dec (f m) l ≡ o → (length (without dec (f m) l) < m → (i : ℕ) × (i < m) × (lookup dec (f i) (without dec (f m) l) ≡ none))
+          → (i : ℕ) × (i < suc m) × (lookup dec (f i) l ≡ none)
+      go none q r = (m, omega arith, q)
+      go (some a) q r =
+          let s = r (omega (arith, rw q at (without-shorter (f m) l))) in
+          (s .0, omega (arith, s .1), sym (lookup-without (f (s .0)) (f m) l (λ p. omega (arith, inj (s .0) m p, s .1))) ∙ s .2)
 
   pub distinct-distinct : (l : List (K × A)) → Distinct (distinct dec l)
   distinct-distinct [] = tt
@@ -203,3 +225,47 @@ module _ {A : Type 0} where
   length-at-least (suc n) l d f =
       let m = length-at-least n (without ℕ-discrete n l) (pairwise-without ℕ-discrete _ n l d) (λ i h. rw (lookup-without ℕ-discrete i n l (omega arith)) (f i (omega arith))) in
       omega (arith, length-without ℕ-discrete n l d, f n (omega arith))
+
+module _ {K A : Type 0} (dec : Discrete K) where
+  -- lists that begin with the same key and agree on key k up to a place agree on it behind their first entries
+  pub lookup-tails : (k : K) (n : ℕ) (e e′ : K × A) (l l′ : List (K × A)) → e .0 ≡ e′ .0 → Absent (e .0) l → Absent (e′ .0) l′
+      → lookup dec k (take (suc n) (e ∷ l)) ≡ lookup dec k (take (suc n) (e′ ∷ l′)) → lookup dec k (take n l) ≡ lookup dec k (take n l′)
+  lookup-tails k n e e′ l l′ p a a′ q =
+      by-cases (dec k (e .0))
+      (λ z. rw (z, lookup-absent dec (e .0) (take n l) (all-take _ n l a), p, lookup-absent dec (e′ .0) (take n l′) (all-take _ n l′ a′)))
+      (λ z. let z′ : k ≢ e′ .0 = λ y. z (y ∙ sym p) in simp if-neg at q)
+
+  -- a place at which two lists differ: up to it they have different values of an entry's key
+  pub record Difference (P : K × A → Type 0) (l l′ : List (K × A)) : Type 0 where
+    pub place : ℕ
+    pub within : place < max (length l) (length l′)
+    pub entry : K × A
+    pub holds : P entry
+    pub differ : lookup dec (entry .0) (take (suc place) l) ≢ lookup dec (entry .0) (take (suc place) l′)
+
+  -- the first such place
+  pub difference : Discrete A → (P : K × A → Type 0) (l l′ : List (K × A)) → All P l → All P l′ → Distinct l → Distinct l′ → l ≢ l′ → Difference P l l′
+  difference decA P [] [] a a′ d d′ n = absurd (n refl)
+  difference decA P [] (y ∷ ys) a a′ d d′ n = record { place = 0; within = omega arith; entry = y; holds = a′ .0; differ = λ q. Option·none-ne-some _ (simp if-pos at q) }
+  difference decA P (x ∷ xs) [] a a′ d d′ n = record { place = 0; within = omega arith; entry = x; holds = a .0; differ = λ q. Option·some-ne-none _ (simp if-pos at q) }
+  difference decA P (x ∷ xs) (y ∷ ys) a a′ d d′ n =
+      by-cases (×-discrete dec decA x y)
+      (λ p.
+      let r = difference decA P xs ys (a .1) (a′ .1) (d .1) (d′ .1) (λ t. n (λ i. p i ∷ t i)) in
+      record {
+        place = suc (r .place);
+        within = omega arith;
+        entry = r .entry;
+        holds = r .holds;
+        differ = λ q. r .differ (lookup-tails (r .entry .0) (suc (r .place)) x y xs ys (ap (λ (e : K × A). e .0) p) (d .0) (d′ .0) q);
+      })
+      (λ p. record {
+        place = 0;
+        within = omega arith;
+        entry = x;
+        holds = a .0;
+        differ = λ q.
+            by-cases (dec (x .0) (y .0))
+            (λ z. p (λ i. (z i, Option·some-injective (x .1) (y .1) (simp if-pos at q) i)))
+            (λ z. Option·some-ne-none (x .1) (simp (if-pos, if-neg) at q));
+      })

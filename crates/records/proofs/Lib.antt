@@ -13,4 +13,5 @@ pub mod KeyedLists
 pub mod ByLastUse
 pub mod UseOrder
 pub mod AgeingTable
+pub mod Distinguish
 pub mod PointsHold

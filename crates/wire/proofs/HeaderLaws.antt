@@ -1,5 +1,5 @@
 -- Laws of the Ethernet header: the ways that the code goes.
-use mathlib.Core.Path.{_≡_, refl, sym, _∙_}
+use mathlib.Core.Path.{_≡_, refl, _∙_}
 use mathlib.Core.Bool.{Bool, true, false, _&&_, cond}
 use mathlib.Core.List.{List}
 use Prim.Native.Nat.{ℕ, _+_, _-_, _≤_, _<_}
@@ -10,7 +10,7 @@ use lib.ListN.{length}
 use Rattle.wire.specs.declared.header.Apdu.the-variants.{At, Refused}
 use Rattle.wire.specs.declared.header.Apdu.{Apdu}
 use Rattle.wire.specs.Number.{pairAt}
-use Rattle.wire.specs.Header.{appidAt, apduFrom, apduOf, withSource, header}
+use Rattle.wire.specs.Header.{appidAt, apduOf, withSource, header}
 
 pub appid-range : (octets : List ℕ) → (14 ≤ appidAt octets) × (appidAt octets ≤ 18)
 unfolding appidAt

@@ -1,5 +1,5 @@
 -- Laws of the fields of an ASDU, one element at a time: what the loop over the elements cites.
-use mathlib.Core.Path.{_≡_, refl, sym, _∙_}
+use mathlib.Core.Path.{_≡_, sym, _∙_}
 use mathlib.Core.Bool.{Bool, true, false, _||_}
 use mathlib.Core.List.{List}
 use Prim.Native.Nat.{ℕ, _<_}
@@ -9,18 +9,10 @@ use lib.ListN.{length, take, drop}
 use Rattle.records.specs.declared.frame.SvFrame.{SvFrame}
 use Rattle.wire.specs.declared.element.Element.the-variants.{Read, Unreadable}
 use Rattle.wire.specs.declared.sv.Parsed.the-variants.{Frame}
-use Rattle.wire.specs.declared.sv.ParsedSv.{ParsedSv}
 use Rattle.wire.specs.Element.{element, elements}
 use Rattle.wire.specs.Sv.{refusedSv, fieldFits, withField, fieldsFrom}
+use Rattle.records.proofs.Booleans.{or-true, or-false}
 use Rattle.wire.proofs.ElementLaws.{elements-none, elements-unreadable, elements-read}
-
-or-true : (b : Bool) → b || true ≡ true
-or-true true = refl
-or-true false = refl
-
-or-false : (b : Bool) → b || false ≡ b
-or-false true = refl
-or-false false = refl
 
 module _ (f : SvFrame) (octets : List ℕ) where
   pub fields-counted : length octets ≡ 0 → fieldsFrom f true (elements octets) ≡ record { answer = Frame; frame = f }

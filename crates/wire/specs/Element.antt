@@ -29,6 +29,7 @@ lengthOf (first ∷ further) = cond (ltb first 0x80) (Definite 1 first) (longFor
 unfoldable pub within : ℕ → ℕ → ℕ → ℕ → Element
 within tag start len total = cond (leb (start + len) total) (Read tag start len (start + len)) Unreadable
 
+-- the element that a length gives, if one was read
 abbrev pub withLength : ℕ → ℕ → Length → Element
 withLength tag total (Definite octets len) = within tag (octets + 1) len total
 withLength tag total Refused = Unreadable
@@ -50,6 +51,7 @@ abbrev pub elementThen : (List ℕ → Elements) → List ℕ → Element → El
 elementThen follow octets Unreadable = unreadable
 elementThen follow octets (Read tag start len end) = next tag (take len (drop start octets)) (follow (drop end octets))
 
+-- nothing, or an element and what follows it
 abbrev pub elementsThen : (List ℕ → Elements) → List ℕ → Elements
 elementsThen follow [] = ended
 elementsThen follow (octet ∷ more) = elementThen follow (octet ∷ more) (element (octet ∷ more))
@@ -69,11 +71,12 @@ firstContent tag ended = []
 firstContent tag unreadable = []
 firstContent tag (next found content rest) = cond (eqb found tag) content (firstContent tag rest)
 
--- an element with this tag at the front is opened: its content is left, and nothing where it is unreadable
+-- the content of an element, none where it is unreadable
 abbrev pub contentOf : List ℕ → Element → List ℕ
 contentOf octets (Read tag start len end) = take len (drop start octets)
 contentOf octets Unreadable = []
 
+-- an element with this tag at the front is opened: its content is left; other octets are left as they are
 unfoldable pub opened : ℕ → List ℕ → List ℕ
 opened tag [] = []
 opened tag (first ∷ more) = cond (eqb first tag) (contentOf (first ∷ more) (element (first ∷ more))) (first ∷ more)

@@ -20,6 +20,7 @@ apduFrom type at len octets =
     cond (leb (at + 8) (length octets) && eqb (pairAt octets (at - 2)) type && leb 8 len && leb (at + len) (length octets))
     (At (at + 8) (at + len)) Refused
 
+-- where the APDU of a frame of this EtherType starts and ends, or refused
 unfoldable pub apduOf : ℕ → List ℕ → Apdu
 apduOf type octets = apduFrom type (appidAt octets) (pairAt octets (appidAt octets + 2)) octets
 
@@ -27,6 +28,7 @@ apduOf type octets = apduFrom type (appidAt octets) (pairAt octets (appidAt octe
 unfoldable pub sourceOf : List ℕ → List ℕ
 sourceOf octets = tabulate (λ k. octetAt octets (6 + k)) 6
 
+-- no address beside a refusal
 abbrev pub withSource : List ℕ → Apdu → Header
 withSource octets (At start end) = record { «src_mac» = sourceOf octets; apdu = At start end }
 withSource octets Refused = record { «src_mac» = replicate 6 0; apdu = Refused }

@@ -1,6 +1,6 @@
 -- Numbers in octets, most significant octet first (X.690 8.1.3.5; IEC 61850-9-2).
 use Prim.Native.Nat.{ℕ, _+_, _*_}
-use mathlib.Core.Bool.{Bool, _&&_, cond}
+use mathlib.Core.Bool.{_&&_, cond}
 use mathlib.Core.List.{List, [], _∷_}
 use lib.Dec.{leb}
 use lib.ListN.{length}
@@ -8,6 +8,7 @@ use Rattle.records.specs.Name.{octetAt}
 use Rattle.wire.specs.declared.number.Unsigned.{Unsigned}
 use Rattle.wire.specs.declared.number.Unsigned.the-variants.{Value, Refused}
 
+-- the number that octets write behind the octets of n
 unfoldable pub bigEndianFrom : ℕ → List ℕ → ℕ
 bigEndianFrom n [] = n
 bigEndianFrom n (octet ∷ rest) = bigEndianFrom (n * 256 + octet) rest

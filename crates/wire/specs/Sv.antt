@@ -1,28 +1,35 @@
 -- The sampled-values frame (01, "SV frame").
-use Prim.Native.Nat.{ℕ, _+_, _-_}
+use Prim.Native.Nat.{ℕ, _-_}
 use mathlib.Core.Bool.{Bool, true, false, _&&_, _||_, cond}
 use mathlib.Core.List.{List, [], _∷_}
 use lib.Dec.{eqb, leb}
-use lib.ListN.{length, take, drop, replicate}
+use lib.ListN.{length, take, drop}
 use Rattle.records.specs.declared.error.VsError.the-variants.{InvalidInput}
 use Rattle.records.specs.declared.frame.SvFrame.{SvFrame}
+use Rattle.records.specs.Error.{errorNumber}
 use Rattle.records.specs.Frame.{defaultSv}
 use Rattle.records.specs.Name.{validLen, octetAt, overwritten}
 use Rattle.wire.specs.declared.number.Unsigned.{Unsigned}
 use Rattle.wire.specs.declared.number.Unsigned.the-variants as unsigned
 use Rattle.wire.specs.declared.header.Apdu.{Apdu}
 use Rattle.wire.specs.declared.header.Apdu.the-variants.{At, Refused}
-use Rattle.wire.specs.declared.header.Header.{Header}
+use Rattle.wire.specs.declared.sv.Parsed.{Parsed}
 use Rattle.wire.specs.declared.sv.Parsed.the-variants.{Frame, Error}
 use Rattle.wire.specs.declared.sv.ParsedSv.{ParsedSv}
 use Rattle.wire.specs.Number.{bigEndian, pairAt, unsignedInt}
 use Rattle.wire.specs.Element.{Elements, ended, unreadable, next, elements, firstContent, opened}
 use Rattle.wire.specs.Header.{header}
 
+-- the error's number where there is one (01, "Refusals in checking order": 9 for an unreadable frame)
+abbrev pub errorOf : Parsed → List ℕ
+errorOf Frame = []
+errorOf (Error e) = errorNumber e ∷ []
+
 -- an unreadable frame is InvalidInput, and no frame
 unfoldable pub refusedSv : ParsedSv
 refusedSv = record { answer = Error InvalidInput; frame = defaultSv }
 
+-- whether an unsigned integer was read
 abbrev pub isValue : Unsigned → Bool
 isValue (unsigned.Value v) = true
 isValue unsigned.Refused = false
@@ -38,6 +45,7 @@ fieldFits tag content =
 unfoldable pub overlaid : List ℕ → List ℕ → List ℕ
 overlaid old content = overwritten old 0 (octetAt content) (validLen (length content))
 
+-- the value that was read, or the one before
 abbrev pub valueOr : ℕ → Unsigned → ℕ
 valueOr old (unsigned.Value v) = v
 valueOr old unsigned.Refused = old
@@ -68,20 +76,20 @@ fieldsFrom f counted unreadable = refusedSv
 fieldsFrom f counted (next tag content rest) =
     cond (fieldFits tag content) (fieldsFrom (withField f tag content) (counted || eqb tag 0x82) rest) refusedSv
 
--- a frame of which only the source and the time are known
+-- the default frame, with its source and its time
 abbrev pub emptyFrame : List ℕ → ℕ → SvFrame
 emptyFrame source time =
     record {
       «src_mac» = source;
-      «svid_len» = 0;
-      svid = replicate 64 0;
-      «smp_cnt» = 0;
-      «smp_rate» = 0;
-      «dataset_ref_len» = 0;
-      «dataset_ref» = replicate 64 0;
+      «svid_len» = defaultSv .«svid_len»;
+      svid = defaultSv .svid;
+      «smp_cnt» = defaultSv .«smp_cnt»;
+      «smp_rate» = defaultSv .«smp_rate»;
+      «dataset_ref_len» = defaultSv .«dataset_ref_len»;
+      «dataset_ref» = defaultSv .«dataset_ref»;
       «timestamp_us» = time;
-      «t_seconds_since_epoch» = 0;
-      «t_fraction_of_second» = 0;
+      «t_seconds_since_epoch» = defaultSv .«t_seconds_since_epoch»;
+      «t_fraction_of_second» = defaultSv .«t_fraction_of_second»;
     }
 
 -- an outer 60 is opened, the first A2 is sought, and inside it an initial 30 is opened; what is empty has no 82
@@ -89,9 +97,11 @@ unfoldable pub apduFrame : List ℕ → List ℕ → ℕ → ParsedSv
 apduFrame apdu source time =
     fieldsFrom (emptyFrame source time) false (elements (opened 0x30 (firstContent 0xA2 (elements (opened 0x60 apdu)))))
 
+-- the frame of the APDU that the header tells of
 abbrev pub headerFrame : List ℕ → ℕ → List ℕ → Apdu → ParsedSv
 headerFrame octets time source (At start end) = apduFrame (take (end - start) (drop start octets)) source time
 headerFrame octets time source Refused = refusedSv
 
+-- the SV frame that some octets hold, EtherType 88 BA, taken at a time; or InvalidInput
 unfoldable pub svFrame : List ℕ → ℕ → ParsedSv
 svFrame octets time = headerFrame octets time (header 0x88BA octets .«src_mac») (header 0x88BA octets .apdu)

@@ -16,7 +16,7 @@ pub fn octet_at(bytes: &[u8], i: usize) -> u8
     0
 }
 
-// The number in two octets.
+// The number in two octets. The place is a `u8`, which a header's places fit, so that the next one cannot overflow.
 pub fn pair_at(bytes: &[u8], i: u8) -> u16
     ensures { λ r. ⌜ r ≡ pairAt (now (bytes .entry)) i ⌝ }
 {

@@ -1,7 +1,6 @@
 -- `first_content` meets its contract. The invariant: what is sought in the unread octets is what is sought in all.
 use borrow.Author.Needs.{needs}
-use mathlib.Core.Path.{_≡_, refl, sym, _∙_, ap}
-use Prim.Native.Nat.{_<_}
+use mathlib.Core.Path.{_≡_, refl, sym, _∙_}
 use native.Mathlib.Omega.{arith}
 use lib.ListN.{length, length-drop}
 use Rattle.wire.proofs.PartLaws.{rest-of-all}

@@ -1,6 +1,6 @@
 -- `read_length` meets its contract.
 use native.Mathlib.Omega.{arith}
-use mathlib.Core.Path.{sym, _∙_, ap}
+use mathlib.Core.Path.{sym, _∙_}
 use Rattle.wire.proofs.ElementLaws.{length-none, length-short, length-long}
 use Rattle.wire.proofs.PartLaws.{rest-is}
 use borrow.Author.Needs.{needs}

@@ -1,8 +1,8 @@
 -- `overlay` meets its contract. The invariant: the places passed are written.
 use native.Mathlib.Omega.{arith}
 use borrow.Author.Needs.{needs}
-use mathlib.Core.Path.{_≡_, refl, sym, _∙_}
-use Prim.Native.Nat.{ℕ, _≤_, _-_, min}
+use mathlib.Core.Path.{_≡_, refl, _∙_}
+use Prim.Native.Nat.{_≤_, _-_}
 use lib.ListN.{length}
 use Rattle.records.specs.Name.{validLen, octetAt, overwritten}
 use Rattle.records.proofs.NameLaws.{overwritten-more}
