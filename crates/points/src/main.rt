@@ -1,5 +1,5 @@
 // Runs the reference points of document 01 and the published FNV-1a vectors, and writes what each gives; `stdout` has what each
-// must give, made by another program (docs/DECISIONS.md).
+// must give (docs/DECISIONS.md says where that is from).
 mod frame_points;
 
 use libc::STDOUT_FILENO;

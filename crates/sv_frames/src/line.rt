@@ -100,8 +100,8 @@ fn put_answer(line: &mut [u8], answer: Parsed) -> usize
     }
 }
 
-// Puts whose sample it is and which: the frame's first five fields.
-fn put_sample(line: &mut [u8], at: usize, frame: SvFrame) -> usize
+// Puts the frame's first five fields: source, svID, count and rate.
+fn put_first_fields(line: &mut [u8], at: usize, frame: SvFrame) -> usize
     requires { ⌜ at ≤ length (now line) ⌝ }
     ensures { λ r. ⌜ Counts r (now (line .exit)) ⌝ }
 {
@@ -112,8 +112,8 @@ fn put_sample(line: &mut [u8], at: usize, frame: SvFrame) -> usize
     put_number(line, end, frame.smp_rate as u64)
 }
 
-// Puts the data set and the times: the frame's other five fields.
-fn put_origin(line: &mut [u8], at: usize, frame: SvFrame) -> usize
+// Puts the frame's other five fields: data set and times.
+fn put_last_fields(line: &mut [u8], at: usize, frame: SvFrame) -> usize
     requires { ⌜ at ≤ length (now line) ⌝ }
     ensures { λ r. ⌜ Counts r (now (line .exit)) ⌝ }
 {
@@ -131,7 +131,7 @@ pub fn put_parsed(line: &mut [u8], parsed: ParsedSv) -> usize
     let answer = parsed.answer;
     let frame = parsed.frame;
     let start = put_answer(line, answer);
-    let middle = put_sample(line, start, frame);
-    let end = put_origin(line, middle, frame);
+    let middle = put_first_fields(line, start, frame);
+    let end = put_last_fields(line, middle, frame);
     put_octets(line, end, b"\n")
 }

@@ -11,6 +11,9 @@ Inv-loop good n₀ n = n ≤ 39
 abbrev μ-loop : tie.MeasureT-loop
 μ-loop good n₀ n = 39 - n
 
+good-frame-requires : tie.Need-good-frame-requires Inv-loop μ-loop
+good-frame-requires c κs = search needs
+
 loop-holds : tie.Need-loop-holds Inv-loop μ-loop
 loop-holds c = omega arith
 
@@ -38,6 +41,7 @@ cut-frames-spec =
     (tie.spec
     Inv-loop
     μ-loop
+    good-frame-requires
     loop-holds
     slice-aggregate-write-cut
     write-cut-requires
