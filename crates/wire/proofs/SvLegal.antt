@@ -11,7 +11,7 @@ use Rattle.records.proofs.Booleans.{cond-holds}
 use Rattle.records.proofs.OctetLaws.{array-tabulate, array-overwritten, array-zeros}
 use Rattle.records.specs.declared.frame.SvFrame.{SvFrame}
 use Rattle.records.specs.Legal.{Octets, OctetArray, LegalSv}
-use Rattle.records.specs.Name.{octetAt, validLen}
+use Rattle.records.specs.Name.{octetAt}
 use Rattle.wire.specs.declared.header.Apdu.{Apdu}
 use Rattle.wire.specs.declared.header.Apdu.the-variants.{At, Refused}
 use Rattle.wire.specs.declared.number.Unsigned.the-variants as unsigned
@@ -47,7 +47,7 @@ refused-legal = empty-legal (array-zeros 6) (omega arith)
 module _ (content : List ℕ) (o : Octets content) where
   overlaid-array : {old : List ℕ} → OctetArray 64 old → OctetArray 64 (overlaid old content)
   unfolding overlaid
-  overlaid-array a = array-overwritten (octetAt content) o 0 (validLen (length content)) a
+  overlaid-array a = array-overwritten (octetAt content) o 0 _ a
 
   -- a value is 65535 at most
   value-below : (old : ℕ) → old < 2 ^ 16 → valueOr old (unsignedInt content) < 2 ^ 16
