@@ -9,22 +9,23 @@ use mathlib.Core.Path.{_≡_, refl}
 use native.Mathlib.Omega.{arith}
 use lib.ListN.{length, take, length-append, length-take}
 use lib.Seq.{take-take, take-all}
-use Rattle.records.proofs.AgeingTable.{Table, slotOf, valueAt, Represents, represents-new, value-lookup, stepped, tick-stepped, represents-stepped}
+use Rattle.records.proofs.AgeingTable.{Table, ageing, Represents, represents-new, value-lookup, next, tick-stepped, represents-stepped}
 use Rattle.records.proofs.ByLastUse.{touch, touch-distinct, by-last-use}
 use Rattle.records.proofs.KeyedLists.{All, Distinct, all-take, all-append, all-without, without-absent, absent-none, absent-key, lookup-tails, difference}
 use Rattle.records.specs.declared.ageing.EqualAges.{EqualAges}
 use Rattle.records.specs.Ageing.{noUse}
 use Rattle.records.specs.Remembered.{lookup, after, remembered}
+use Rattle.records.specs.Table.{valueOf}
 
 -- the outputs of a machine, each of its input and of the state that the inputs before it left
 abbrev pub outputs : {S X A : Type 0} → (S → X → A) → (S → X → S) → S → List X → List A
-outputs out next s [] = []
-outputs out next s (x ∷ h) = out s x ∷ outputs out next (next s x) h
+outputs out move s [] = []
+outputs out move s (x ∷ h) = out s x ∷ outputs out move (move s x) h
 
-outputs-last : {S X A : Type 0} (out : S → X → A) (next : S → X → S) (s s′ : S) (h : List X) (x : X)
-    → outputs out next s (h ++ x ∷ []) ≡ outputs out next s′ (h ++ x ∷ []) → out (foldl next s h) x ≡ out (foldl next s′ h) x
-outputs-last out next s s′ [] x e = head-eq-of-cons-eq e
-outputs-last out next s s′ (y ∷ h) x e = outputs-last out next (next s y) (next s′ y) h x (tail-eq-of-cons-eq e)
+outputs-last : {S X A : Type 0} (out : S → X → A) (move : S → X → S) (s s′ : S) (h : List X) (x : X)
+    → outputs out move s (h ++ x ∷ []) ≡ outputs out move s′ (h ++ x ∷ []) → out (foldl move s h) x ≡ out (foldl move s′ h) x
+outputs-last out move s s′ [] x e = head-eq-of-cons-eq e
+outputs-last out move s s′ (y ∷ h) x e = outputs-last out move (move s y) (move s′ y) h x (tail-eq-of-cons-eq e)
 
 module _ {K W I A : Type 0} (dec : Discrete K) where
   -- the answer to a frame, from what the list has of its key
@@ -36,10 +37,10 @@ module _ {K W I A : Type 0} (dec : Discrete K) where
 
 module _ {K W I A : Type 0} (B : Table K W) (dec : Discrete K) (rule : EqualAges) (fresh : I → W) (step : W → I → W) (ans : Option W → I → A) where
   abbrev pub tableAnswers : B .State → List (K × I) → List A
-  tableAnswers = outputs (λ t x. ans (valueAt B t (slotOf B t (x .0))) (x .1)) (stepped B dec rule fresh step)
+  tableAnswers = outputs (λ t x. ans (valueOf (B .columns) t (x .0)) (x .1)) (next B dec rule fresh step)
 
   -- a table answers as the list that it represents
-  pub table-answers : {t : B .State} {l : List (K × W)} → Represents B t l → (h : List (K × I)) → All (λ x. B .Legal (x .0)) h → B .ageing t .tick + length h < 2 ^ 32
+  pub table-answers : {t : B .State} {l : List (K × W)} → Represents B t l → (h : List (K × I)) → All (λ x. B .Legal (x .0)) h → ageing B t .tick + length h < 2 ^ 32
       → tableAnswers t h ≡ answers dec 16 fresh step ans l h
   table-answers r [] g w = refl
   table-answers r (x ∷ h) g w =
@@ -51,17 +52,17 @@ module _ {K W I A : Type 0} (B : Table K W) (dec : Discrete K) (rule : EqualAges
 
   -- also after a history
   history-answers : {t : B .State} {l : List (K × W)} → Represents B t l → (h f : List (K × I)) → All (λ x. B .Legal (x .0)) h → All (λ x. B .Legal (x .0)) f
-      → B .ageing t .tick + (length h + length f) < 2 ^ 32
-      → tableAnswers (foldl (stepped B dec rule fresh step) t h) f ≡ answers dec 16 fresh step ans (foldl (touch dec 16 fresh step) l h) f
+      → ageing B t .tick + (length h + length f) < 2 ^ 32
+      → tableAnswers (foldl (next B dec rule fresh step) t h) f ≡ answers dec 16 fresh step ans (foldl (touch dec 16 fresh step) l h) f
   history-answers r [] f g g′ w = table-answers r f g′ (omega arith)
   history-answers r (x ∷ h) f g g′ w =
       history-answers (represents-stepped B dec rule fresh step r x (g .0) (omega arith)) h f (g .1) g′
       (omega (arith, tick-stepped B dec rule fresh step r x (g .0) (omega arith)))
 
   -- from a fresh table, a history leaves what answers as its remembered list
-  pub remembered-answers : (t : B .State) → B .Sized t → B .ageing t ≡ noUse → (h f : List (K × I)) → All (λ x. B .Legal (x .0)) h → All (λ x. B .Legal (x .0)) f
+  pub remembered-answers : (t : B .State) → B .Sized t → ageing B t ≡ noUse → (h f : List (K × I)) → All (λ x. B .Legal (x .0)) h → All (λ x. B .Legal (x .0)) f
       → length h + length f < 2 ^ 32
-      → tableAnswers (foldl (stepped B dec rule fresh step) t h) f ≡ answers dec 16 fresh step ans (remembered dec 16 fresh step (reverse h)) f
+      → tableAnswers (foldl (next B dec rule fresh step) t h) f ≡ answers dec 16 fresh step ans (remembered dec 16 fresh step (reverse h)) f
   unfolding noUse
   remembered-answers t z e h f g g′ w = rw (← by-last-use dec 16 fresh step h) (history-answers (represents-new B t z e) h f g g′ (rw e (omega arith)))
 

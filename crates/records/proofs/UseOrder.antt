@@ -20,11 +20,9 @@ use Rattle.records.specs.declared.ageing.EqualAges.{EqualAges}
 use Rattle.records.specs.Ageing.{nextTick, ageAt, oldest, firstFree, slotFor, newSlot, noUse, usedAt}
 use Rattle.records.specs.Remembered.{lookup, without}
 use Rattle.records.specs.Search.{slotOr}
+use Rattle.records.specs.Table.{inUse}
 
--- whether a slot is in use, and the tick of its last use
-abbrev pub inUse : Ageing → ℕ → Bool
-inUse a i = getD (a .active) i false
-
+-- the tick of a slot's last use
 abbrev pub lastUse : Ageing → ℕ → ℕ
 lastUse a i = getD (a .«last_used») i 0
 

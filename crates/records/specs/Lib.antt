@@ -12,4 +12,5 @@ pub mod Ageing
 pub mod Name
 pub mod Legal
 pub mod Remembered
+pub mod Table
 pub mod Points
