@@ -33,3 +33,13 @@ or-true false = refl
 pub or-false : (b : Bool) → b || false ≡ b
 or-false true = refl
 or-false false = refl
+
+module _ (a b : Bool) where
+  pub and-yes : a ≡ true → b ≡ true → a && b ≡ true
+  and-yes p q = rw (p, q)
+
+  pub and-no-left : a ≡ false → a && b ≡ false
+  and-no-left p = rw p
+
+  pub and-no-right : b ≡ false → a && b ≡ false
+  and-no-right q = rw q (and-false a)

@@ -22,7 +22,7 @@ abbrev pub outputs : {S X A : Type 0} → (S → X → A) → (S → X → S) �
 outputs out move s [] = []
 outputs out move s (x ∷ h) = out s x ∷ outputs out move (move s x) h
 
-outputs-last : {S X A : Type 0} (out : S → X → A) (move : S → X → S) (s s′ : S) (h : List X) (x : X)
+pub outputs-last : {S X A : Type 0} (out : S → X → A) (move : S → X → S) (s s′ : S) (h : List X) (x : X)
     → outputs out move s (h ++ x ∷ []) ≡ outputs out move s′ (h ++ x ∷ []) → out (foldl move s h) x ≡ out (foldl move s′ h) x
 outputs-last out move s s′ [] x e = head-eq-of-cons-eq e
 outputs-last out move s s′ (y ∷ h) x e = outputs-last out move (move s y) (move s′ y) h x (tail-eq-of-cons-eq e)

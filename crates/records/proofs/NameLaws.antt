@@ -11,9 +11,10 @@ use native.Mathlib.Decide.{ℕ-discrete, decLt}
 use borrow.Author.Tests.{lt-ltb, le-ltb, eq-eqb, ne-eqb, eqb-true}
 use lib.Dec.{eqb, ltb}
 use lib.ListN.{length, getD, set, drop, List·getD-append, length-append, length-set, drop-of-length-le}
-use lib.Seq.{drop-cons, set-at, getD-at, getD-take, getD-set-same, getD-set-other, length-take-le, ext-getD}
+use lib.Seq.{drop-cons, set-at, set-getD, getD-at, getD-take, getD-set-same, getD-set-other, length-take-le, ext-getD}
 use Rattle.records.proofs.Booleans.{cond-yes, and-true, and-false, and-both}
-use Rattle.records.specs.Name.{validLen, nameOf, tabulate, octetAt, padded, agree, overwritten, octetsStored}
+use Rattle.records.specs.declared.name.Names.{Names}
+use Rattle.records.specs.Name.{validLen, nameOf, tabulate, octetAt, padded, agree, overwritten, sameOctets, sameName, octetsStored, nameStored}
 
 module _ (f g : ℕ → ℕ) (i : ℕ) where
   pub agree-differ : (f i ≡ g i → ⊥) → agree f g (i + 1) ≡ false
@@ -151,3 +152,37 @@ module _ (octets name : List ℕ) (slot : ℕ) (h : slot < 16) where
   unfolding octetsStored
   stored-elsewhere other k n l =
       rw (lt-ltb slot 16 h) (overwritten-out octets (slot * 64) (octetAt name) 64 (other * 64 + k) (λ j b e. n (omega arith)))
+
+-- ---- names as keys
+
+module _ (octets : List ℕ) (len : ℕ) (size : length octets ≡ 64) where
+  pub length-name : length (nameOf octets len) ≡ validLen len
+  length-name = length-take-le (validLen len) octets (omega arith)
+
+  -- a name is kept as the octets that a frame states
+  pub padded-name : padded (nameOf octets len) (length (nameOf octets len)) ≡ padded octets (validLen len)
+  unfolding padded
+  padded-name = rw length-name (tabulate-same _ _ 64 (λ k h. go k (decLt k (validLen len))))
+    where
+      go : (k : ℕ) → Dec (k < validLen len) → cond (ltb k (validLen len)) (octetAt (nameOf octets len) k) 0 ≡ cond (ltb k (validLen len)) (octetAt octets k) 0
+      go k (yes l) = rw (lt-ltb k (validLen len) l) (getD-take (validLen len) octets k 0 l)
+      go k (no l) = rw (le-ltb k (validLen len) (omega arith))
+
+-- what a slot holds is the same when it is stored again
+overwritten-again : (l : List ℕ) (start : ℕ) (f : ℕ → ℕ) (n : ℕ) → ((k : ℕ) → k < n → octetAt l (start + k) ≡ f k) → overwritten l start f n ≡ l
+unfolding overwritten
+overwritten-again l start f zero e = refl
+overwritten-again l start f (suc n) e =
+    rw (overwritten-again l start f n (λ k h. e k (omega arith)), ← e n (omega arith)) (set-getD l (start + n) 0)
+
+pub stored-again : (names : Names) (slot : ℕ) (name : List ℕ) (len : ℕ) → sameName (names .octets) (names .lens) slot name len ≡ true → nameStored names slot name len ≡ names
+unfolding sameName sameOctets nameStored octetsStored
+stored-again names slot name len e =
+    let a = and-both (eqb (getD (names .lens) slot 0) len) _ e in
+    let b = and-both (ltb slot 16) _ (a .1) in
+    rw (
+      b .0,
+      overwritten-again (names .octets) (slot * 64) (octetAt name) 64 (agree-at _ _ 64 (b .1)),
+      ← eqb-true (getD (names .lens) slot 0) len (a .0),
+      set-getD (names .lens) slot 0,
+    )

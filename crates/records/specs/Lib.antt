@@ -13,4 +13,5 @@ pub mod Name
 pub mod Legal
 pub mod Remembered
 pub mod Table
+pub mod Decide
 pub mod Points

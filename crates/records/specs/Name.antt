@@ -4,7 +4,7 @@ use Prim.Native.Nat.{ℕ, zero, suc, _+_, _*_, min}
 use mathlib.Core.Bool.{Bool, true, _&&_, cond}
 use mathlib.Core.List.{List, [], _∷_, _++_}
 use lib.Dec.{eqb, ltb}
-use lib.ListN.{getD, set, take, replicate}
+use lib.ListN.{length, getD, set, take, replicate}
 use Rattle.records.specs.declared.name.Names.{Names}
 
 -- stated lengths above 64 count as 64
@@ -60,3 +60,11 @@ nameStored names slot name len =
     cond (ltb slot 16)
     (record { octets = octetsStored (names .octets) slot name; lens = set (names .lens) slot len })
     names
+
+-- whether a slot has this name
+abbrev pub hasName : Names → ℕ → List ℕ → Bool
+hasName names slot name = sameName (names .octets) (names .lens) slot (padded name (length name)) (length name)
+
+-- a slot given this name
+abbrev pub withName : Names → ℕ → List ℕ → Names
+withName names slot name = nameStored names slot (padded name (length name)) (length name)

@@ -1,6 +1,6 @@
 -- The search for a slot (01, "Forms to change": a search that stops at its first hit and yields that place).
 use Prim.Native.Nat.{ℕ, zero, suc}
-use mathlib.Core.Bool.{Bool, cond}
+use mathlib.Core.Bool.{Bool, true, false, cond}
 use Rattle.records.specs.declared.search.Found.{Found}
 use Rattle.records.specs.declared.search.Found.the-variants.{At, Nothing}
 
@@ -17,3 +17,13 @@ first test = firstFrom test 0 16
 abbrev pub slotOr : ℕ → Found → ℕ
 slotOr other (At i) = i
 slotOr other Nothing = other
+
+-- whether there is such a slot
+abbrev pub isFound : Found → Bool
+isFound (At i) = true
+isFound Nothing = false
+
+-- the last of the first n slots that passes the test
+unfoldable pub lastBelow : (ℕ → Bool) → ℕ → Found
+lastBelow test zero = Nothing
+lastBelow test (suc n) = cond (test n) (At n) (lastBelow test n)

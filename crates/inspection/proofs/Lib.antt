@@ -1,0 +1,11 @@
+pub mod AddressLaws
+pub mod SvSeqLaws
+pub mod GooseSeqLaws
+pub mod SettingLaws
+pub mod ReportLaws
+pub mod StreamTables
+pub mod PlainMonitor
+pub mod RememberedLaws
+pub mod Observables
+pub mod Demand3Holds
+pub mod PointsHold

@@ -1,0 +1,246 @@
+-- Inspections without publishers, reservations and enforcement: what they do to the streams and clocks, and answer from them.
+use Prim.Native.Nat.{ℕ, _≤_}
+use mathlib.Core.Bool.{Bool, true, false, _&&_, cond}
+use mathlib.Core.List.{List, [], _∷_, _++_, foldl}
+use mathlib.Core.Option.{Option, none, some}
+use mathlib.Core.Path.{_≡_, refl, sym, ap, _∙_}
+use native.Mathlib.Omega.{arith}
+use lib.Dec.{eqb, ltb}
+use lib.ListN.{length, length-append}
+use Rattle.records.specs.declared.alert.AlertSeverity.the-variants.{Medium}
+use Rattle.records.specs.declared.alert.AlertCode.the-variants.{PolicyViolation, SvRateAnomaly}
+use Rattle.records.specs.declared.frame.GooseFrame.{GooseFrame}
+use Rattle.records.specs.declared.frame.SvFrame.{SvFrame}
+use Rattle.records.specs.Search.{firstFrom, lastBelow}
+use Rattle.records.specs.declared.schedule.RetxSchedule.{RetxSchedule}
+use Rattle.records.specs.Table.{valueOf}
+use Rattle.records.proofs.Booleans.{and-false}
+use Rattle.inspection.specs.declared.goose_seq.GooseSeqTable.{GooseSeqTable}
+use Rattle.inspection.specs.declared.monitor.Iec61850Monitor.{Iec61850Monitor}
+use Rattle.inspection.specs.declared.reservation.CbChecked.{CbChecked}
+use Rattle.inspection.specs.declared.settings.Settings.{Settings}
+use Rattle.inspection.specs.declared.sv_publisher.SvPublishers.{SvPublishers}
+use Rattle.inspection.specs.declared.sv_publisher.SvPublisher.the-variants.{NotRegistered}
+use Rattle.inspection.specs.declared.sv_seq.SvSeqOutcome.{SvSeqOutcome}
+use Rattle.inspection.specs.declared.sv_seq.SvSeqOutcome.the-variants.{FirstSeen, Replay, ForwardGap, CycleWrap, SuspiciousSmpGap}
+use Rattle.inspection.specs.declared.sv_seq.SvSeqTable.{SvSeqTable}
+use Rattle.inspection.specs.declared.time_field.TimeTrackers.{TimeTrackers}
+use Rattle.inspection.specs.declared.time_field.TimeChecked.{TimeChecked}
+use Rattle.inspection.specs.Address.{addressOf}
+use Rattle.inspection.specs.Demand3.{Inspection, goose, sv, inspect, afterHistory, answers, Answer, answerOf, blocked, Premises}
+use Rattle.inspection.specs.GooseSeq.{gooseKey, gooseTimed, gooseStreams, gooseChecked, retxChecked, retransmission}
+use Rattle.inspection.specs.InspectGoose.{goosePair, clockFindings, streamFindings, gooseTest, gooseAllowed, gooseReservation, gooseTimeField, inspectGoose}
+use Rattle.inspection.specs.InspectSv.{svPair, rateFindings, countFindings, svTimeField, svReservation, svRegistered, svBinding, inspectSv}
+use Rattle.inspection.specs.Monitor.{countedGoose, countedSv}
+use Rattle.inspection.specs.Report.{Finding, Checked, refusal, ended, reported}
+use Rattle.inspection.specs.Reservation.{reserves, reservationOf, cbChecked, noReservations}
+use Rattle.inspection.specs.SvPublisher.{svPublisher}
+use Rattle.inspection.specs.SvSeq.{svKey, svChecked}
+use Rattle.inspection.specs.TimeField.{timeChecked}
+use Rattle.inspection.proofs.ReportLaws.{answerFrom, reported-answer}
+
+-- what the inspections read and write of a monitor
+pub record Remembering : Type 0 where
+  pub svs : SvSeqTable
+  pub gooses : GooseSeqTable
+  pub times : TimeTrackers
+
+abbrev pub remembering : Iec61850Monitor → Remembering
+remembering m = record { svs = m .tables .«sv_seq»; gooses = m .tables .«goose_seq»; times = m .tables .«time_trackers» }
+
+module _ (s : Settings) (v : Remembering) where
+  abbrev pub clockOf : List ℕ → ℕ × ℕ → TimeChecked
+  clockOf mac pair = timeChecked (v .times) (s .«time_max_forward_jump_s») (addressOf mac) pair
+
+  abbrev pub next : Inspection → Remembering
+  next (goose f) =
+      cond (blocked s f) v (record {
+        svs = v .svs;
+        gooses = gooseChecked (v .gooses) (gooseKey f) (gooseTimed f) .table;
+        times = clockOf (f .«src_mac») (goosePair f) .table;
+      })
+  next (sv f) = record {
+    svs = svChecked (v .svs) (svKey f) (f .«smp_cnt») .table;
+    gooses = v .gooses;
+    times = clockOf (f .«src_mac») (svPair f) .table;
+  }
+
+  abbrev pub findings : Inspection → List Finding
+  findings (goose f) =
+      cond (blocked s f) (refusal Medium PolicyViolation ∷ [])
+      (clockFindings (clockOf (f .«src_mac») (goosePair f) .alert) ++ streamFindings (gooseChecked (v .gooses) (gooseKey f) (gooseTimed f) .replay) false)
+  findings (sv f) =
+      clockFindings (clockOf (f .«src_mac») (svPair f) .alert)
+      ++ countFindings (s .«sv_max_smp_cnt_gap») [] (svChecked (v .svs) (svKey f) (f .«smp_cnt») .outcome)
+
+-- ---- without reservations and publishers
+
+abbrev notReserved : CbChecked
+notReserved = record { table = noReservations; hijack = false }
+
+no-hijack : (name : List ℕ) (isGoose : Bool) (address : ℕ) → cbChecked noReservations name isGoose address ≡ notReserved
+unfolding cbChecked reservationOf reserves firstFrom
+no-hijack name isGoose address = go (eqb (length name) 0)
+  where
+    go : (b : Bool) → cond b notReserved notReserved ≡ notReserved
+    go true = refl
+    go false = refl
+
+not-registered : (p : SvPublishers) (address : ℕ) (svid : List ℕ) → p .count ≡ 0 → svPublisher p address svid ≡ NotRegistered
+unfolding svPublisher lastBelow
+not-registered p address svid e = rw e
+
+no-rate : (frameRate : ℕ) → rateFindings frameRate 0 ≡ []
+unfolding rateFindings
+no-rate frameRate = rw (and-false (ltb 0 frameRate))
+
+module _ (m : Iec61850Monitor) (p : Premises m) (free : m .«cb_reservations» ≡ noReservations) where
+  sv-checks : (f : SvFrame) → svBinding (countedSv m) f ≡ svTimeField (countedSv m) f 0
+  unfolding svBinding svReservation countedSv
+  sv-checks f =
+      rw (not-registered (m .rules .sv) (addressOf (f .«src_mac»)) (svKey f) (p .no-sv-publisher), p .no-sv-publisher, and-false, free, no-hijack)
+
+  goose-checks : (f : GooseFrame) → gooseTest (countedGoose m) f ≡ cond (blocked (m .settings) f) (ended (countedGoose m) (refusal Medium PolicyViolation ∷ [])) (gooseTimeField (countedGoose m) f)
+  unfolding gooseTest gooseAllowed gooseReservation countedGoose
+  goose-checks f = rw (p .no-goose-publisher, free, no-hijack)
+
+-- ---- one inspection
+
+not-enforced : (schedule : RetxSchedule) (t : GooseSeqTable) (key : ℕ × ℕ) (new : (ℕ × ℕ) × ℕ) → retxChecked false schedule t key new ≡ false
+unfolding retxChecked
+not-enforced schedule t key new = go (valueOf gooseStreams t key)
+  where
+    go : (o : Option ((ℕ × ℕ) × ℕ)) → retransmission false schedule o new ≡ false
+    go none = refl
+    go (some last) = refl
+
+clock-short : (alert : Bool) → length (clockFindings alert) ≤ 1
+clock-short true = omega arith
+clock-short false = omega arith
+
+stream-short : (replay outside : Bool) → length (streamFindings replay outside) ≤ 1
+stream-short true outside = omega arith
+stream-short false true = omega arith
+stream-short false false = omega arith
+
+count-short : (limit : ℕ) (o : SvSeqOutcome) → length (countFindings limit [] o) ≤ 1
+unfolding countFindings
+count-short limit FirstSeen = omega arith
+count-short limit Replay = omega arith
+count-short limit (ForwardGap gap) = go (ltb 0 limit && ltb limit gap)
+  where
+    go : (b : Bool) → length (cond b (refusal Medium SvRateAnomaly ∷ []) []) ≤ 1
+    go true = omega arith
+    go false = omega arith
+count-short limit CycleWrap = omega arith
+count-short limit (SuspiciousSmpGap gap) = omega arith
+
+sv-short : (alert : Bool) (limit : ℕ) (o : SvSeqOutcome) → length (clockFindings alert ++ countFindings limit [] o) ≤ 4
+sv-short alert limit o = rw (length-append (clockFindings alert) (countFindings limit [] o)) (omega (arith, clock-short alert, count-short limit o))
+
+goose-short : (alert replay outside : Bool) → length (clockFindings alert ++ streamFindings replay outside) ≤ 4
+goose-short alert replay outside =
+    rw (length-append (clockFindings alert) (streamFindings replay outside)) (omega (arith, clock-short alert, stream-short replay outside))
+
+-- what an inspection leaves and answers
+pub record Done (m : Iec61850Monitor) (x : Inspection) : Type 0 where
+  pub settings : inspect m x .monitor .settings ≡ m .settings
+  pub rules : inspect m x .monitor .rules ≡ m .rules
+  pub reservations : inspect m x .monitor .«cb_reservations» ≡ m .«cb_reservations»
+  pub tables : remembering (inspect m x .monitor) ≡ next (m .settings) (remembering m) x
+  pub answer : answerOf (inspect m x .result) ≡ answerFrom true [] (findings (m .settings) (remembering m) x)
+
+module _ (m : Iec61850Monitor) (p : Premises m) (free : m .«cb_reservations» ≡ noReservations) where
+  sv-done : (f : SvFrame) → Done m (sv f)
+  unfolding inspectSv svTimeField reported countedSv
+  sv-done f = record {
+    settings = rw (sv-checks m p free f);
+    rules = rw (sv-checks m p free f);
+    reservations = rw (sv-checks m p free f);
+    tables = rw (sv-checks m p free f);
+    answer =
+        rw (sv-checks m p free f)
+        (reported-answer _ _ _ (svTimeField (countedSv m) f 0) (rw no-rate (sv-short (clockOf (m .settings) (remembering m) (f .«src_mac») (svPair f) .alert) (m .settings .«sv_max_smp_cnt_gap»)
+        (svChecked (m .tables .«sv_seq») (svKey f) (f .«smp_cnt») .outcome))) ∙ rw no-rate);
+  }
+
+  goose-done : (f : GooseFrame) → Done m (goose f)
+  unfolding inspectGoose gooseTimeField reported countedGoose
+  goose-done f = go (blocked (m .settings) f) (goose-checks m p free f) refl
+    where
+      go : (b : Bool) → gooseTest (countedGoose m) f ≡ cond b (ended (countedGoose m) (refusal Medium PolicyViolation ∷ [])) (gooseTimeField (countedGoose m) f)
+          → blocked (m .settings) f ≡ b → Done m (goose f)
+      go true e q = record {
+        settings = rw e;
+        rules = rw e;
+        reservations = rw e;
+        tables = rw (e, q);
+        answer = rw (e, q) (reported-answer _ _ _ (ended (countedGoose m) (refusal Medium PolicyViolation ∷ [])) (omega arith));
+      }
+      go false e q = record {
+        settings = rw e;
+        rules = rw e;
+        reservations = rw e;
+        tables = rw (e, q);
+        answer =
+            rw (e, q)
+            (reported-answer _ _ _ (gooseTimeField (countedGoose m) f) (goose-short (clockOf (m .settings) (remembering m) (f .«src_mac») (goosePair f) .alert)
+            (gooseChecked (m .tables .«goose_seq») (gooseKey f) (gooseTimed f) .replay)
+            (retxChecked (m .settings .«retx_enforce») (m .settings .«retx_schedule») (m .tables .«goose_seq») (gooseKey f) (gooseTimed f))) ∙ rw (p .not-enforced, not-enforced));
+      }
+
+  pub done : (x : Inspection) → Done m x
+  done (goose f) = goose-done f
+  done (sv f) = sv-done f
+
+-- ---- a list of inspections
+
+-- without publishers, reservations and enforcement
+pub record Plain (m : Iec61850Monitor) : Type 0 where
+  pub premises : Premises m
+  pub free : m .«cb_reservations» ≡ noReservations
+
+premises-kept : {m m′ : Iec61850Monitor} → m′ .settings ≡ m .settings → m′ .rules ≡ m .rules → Premises m → Premises m′
+premises-kept s r p = record {
+  no-goose-publisher = rw r (p .no-goose-publisher);
+  no-sv-publisher = rw r (p .no-sv-publisher);
+  not-enforced = rw s (p .not-enforced);
+  limit-least = rw s (p .limit-least);
+  limit-most = rw s (p .limit-most);
+}
+
+abbrev pub nextAll : Settings → Remembering → List Inspection → Remembering
+nextAll s = foldl (next s)
+
+abbrev pub answersFrom : Settings → Remembering → List Inspection → List Answer
+answersFrom s v [] = []
+answersFrom s v (x ∷ further) = answerFrom true [] (findings s v x) ∷ answersFrom s (next s v x) further
+
+module _ {m : Iec61850Monitor} (q : Plain m) (x : Inspection) where
+  plain-done : Done m x
+  plain-done = done m (q .premises) (q .free) x
+
+  pub plain-next : Plain (inspect m x .monitor)
+  plain-next = record {
+    premises = premises-kept (plain-done .settings) (plain-done .rules) (q .premises);
+    free = plain-done .reservations ∙ q .free;
+  }
+
+pub record Left (m m′ : Iec61850Monitor) (h : List Inspection) : Type 0 where
+  pub plain : Plain m′
+  pub settings : m′ .settings ≡ m .settings
+  pub tables : remembering m′ ≡ nextAll (m .settings) (remembering m) h
+
+-- the monitor that a history leaves
+pub left : {m : Iec61850Monitor} → Plain m → (h : List Inspection) → Left m (afterHistory m h) h
+left q [] = record { plain = q; settings = refl; tables = refl }
+left {m} q (x ∷ h) =
+    let d = plain-done q x in
+    let r = left (plain-next q x) h in
+    record { plain = r .plain; settings = r .settings ∙ d .settings; tables = r .tables ∙ rw (d .settings, d .tables) }
+
+pub answers-from : {m : Iec61850Monitor} → Plain m → (further : List Inspection) → answers m further ≡ answersFrom (m .settings) (remembering m) further
+answers-from q [] = refl
+answers-from {m} q (x ∷ further) =
+    let d = plain-done q x in
+    rw (d .answer, answers-from (plain-next q x) further, d .settings, d .tables)

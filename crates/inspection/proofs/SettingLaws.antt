@@ -1,0 +1,53 @@
+-- Set and add calls leave what is remembered, and the reservations.
+use mathlib.Core.Bool.{Bool}
+use mathlib.Core.List.{List, [], _∷_, foldl}
+use mathlib.Core.Path.{_≡_, refl, _∙_}
+use lib.ListN.{length}
+use Rattle.inspection.specs.declared.monitor.Added.{Added}
+use Rattle.inspection.specs.declared.monitor.Added.the-variants.{Rule, Error}
+use Rattle.inspection.specs.declared.monitor.Iec61850Monitor.{Iec61850Monitor}
+use Rattle.inspection.specs.declared.mms_rule.MmsRules.{MmsRules}
+use Rattle.inspection.specs.declared.goose_publisher.GoosePublishers.{GoosePublishers}
+use Rattle.inspection.specs.declared.sv_publisher.SvPublishers.{SvPublishers}
+use Rattle.inspection.specs.Address.{addressOf}
+use Rattle.inspection.specs.Calls.{Setting, mmsServiceMask, mmsReadOnly, mmsRule, goosePublisher, svPublisher, blockTestFrames, svMaxSmpCntGap, retxSchedule, timeMaxForwardJump, settingMade, configuredMonitor}
+use Rattle.inspection.specs.Monitor.{newMonitor, withRules, setMmsServiceMask, setMmsReadOnly, setBlockTestFrames, setSvMaxSmpCntGap, setRetxSchedule, setTimeMaxForwardJump, addMmsRule, addGoosePublisher, addSvPublisher}
+use Rattle.inspection.specs.MmsRule.{withMmsRule}
+use Rattle.inspection.specs.GoosePublisher.{withGoosePublisher}
+use Rattle.inspection.specs.SvPublisher.{withSvPublisher}
+use Rattle.inspection.specs.Rules.{ifAdded, addAnswer}
+
+-- the same tables and reservations
+pub record Untouched (m m′ : Iec61850Monitor) : Type 0 where
+  pub tables : m′ .tables ≡ m .tables
+  pub reservations : m′ .«cb_reservations» ≡ m .«cb_reservations»
+
+added-untouched : (m : Iec61850Monitor) (answer : Added) (mms : MmsRules) (goose : GoosePublishers) (sv : SvPublishers) → Untouched m (ifAdded answer (withRules m mms goose sv) m)
+added-untouched m Rule mms goose sv = record { tables = refl; reservations = refl }
+added-untouched m (Error e) mms goose sv = record { tables = refl; reservations = refl }
+
+pub setting-untouched : (m : Iec61850Monitor) (s : Setting) → Untouched m (settingMade m s)
+unfolding setMmsServiceMask setMmsReadOnly setBlockTestFrames setSvMaxSmpCntGap setRetxSchedule setTimeMaxForwardJump addMmsRule addGoosePublisher addSvPublisher
+setting-untouched m (mmsServiceMask mask) = record { tables = refl; reservations = refl }
+setting-untouched m (mmsReadOnly readOnly) = record { tables = refl; reservations = refl }
+setting-untouched m (mmsRule mask readOnly rate) =
+    added-untouched m (addAnswer (m .rules .mms .count) 0) (withMmsRule (m .rules .mms) mask readOnly rate) (m .rules .goose) (m .rules .sv)
+setting-untouched m (goosePublisher mac name) =
+    added-untouched m (addAnswer (m .rules .goose .count) (length name)) (m .rules .mms) (withGoosePublisher (m .rules .goose) (addressOf mac) name) (m .rules .sv)
+setting-untouched m (svPublisher mac svid rate) =
+    added-untouched m (addAnswer (m .rules .sv .count) (length svid)) (m .rules .mms) (m .rules .goose) (withSvPublisher (m .rules .sv) (addressOf mac) svid rate)
+setting-untouched m (blockTestFrames block) = record { tables = refl; reservations = refl }
+setting-untouched m (svMaxSmpCntGap gap) = record { tables = refl; reservations = refl }
+setting-untouched m (retxSchedule schedule enforce) = record { tables = refl; reservations = refl }
+setting-untouched m (timeMaxForwardJump seconds) = record { tables = refl; reservations = refl }
+
+settings-untouched : (m : Iec61850Monitor) (settings : List Setting) → Untouched m (foldl settingMade m settings)
+settings-untouched m [] = record { tables = refl; reservations = refl }
+settings-untouched m (s ∷ settings) =
+    let u = setting-untouched m s in
+    let r = settings-untouched (settingMade m s) settings in
+    record { tables = r .tables ∙ u .tables; reservations = r .reservations ∙ u .reservations }
+
+-- a new monitor with its settings made remembers nothing
+pub configured-untouched : (strict : Bool) (settings : List Setting) → Untouched (newMonitor strict) (configuredMonitor strict settings)
+configured-untouched strict settings = settings-untouched (newMonitor strict) settings

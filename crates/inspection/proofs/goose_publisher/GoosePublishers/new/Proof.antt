@@ -1,0 +1,13 @@
+-- `GoosePublishers::new` meets its contract.
+use borrow.Author.Needs.{needs}
+use Rattle.inspection.proofs.goose_publisher.GoosePublishers.new.Statement.{statement}
+use Rattle.inspection.proofs.goose_publisher.GoosePublishers.new.Tie as tie
+
+new-requires : tie.Need-new-requires
+new-requires c κs = search needs
+
+returns : tie.Need-returns
+returns c = rw (c .new .ensures)
+
+pub new-spec : {M : Type 1} → statement M
+new-spec = tie.close (tie.spec new-requires returns)

@@ -1,0 +1,93 @@
+-- Calls of every entry, what a list of them leaves, and the monitors that calls reach.
+use Prim.Native.Nat.{ℕ, _<_, _^_}
+use mathlib.Core.Bool.{Bool}
+use mathlib.Core.List.{List, [], _∷_, foldl}
+use mathlib.Core.Path.{_≡_}
+use Rattle.records.specs.declared.frame.MmsFrame.{MmsFrame}
+use Rattle.records.specs.declared.frame.GooseFrame.{GooseFrame}
+use Rattle.records.specs.declared.frame.SvFrame.{SvFrame}
+use Rattle.records.specs.declared.schedule.RetxSchedule.{RetxSchedule}
+use Rattle.records.specs.Legal.{Octets, OctetArray, LegalMms, LegalGoose, LegalSv}
+use Rattle.inspection.specs.declared.monitor.Iec61850Monitor.{Iec61850Monitor}
+use Rattle.inspection.specs.InspectMms.{inspectMms}
+use Rattle.inspection.specs.InspectGoose.{inspectGoose}
+use Rattle.inspection.specs.InspectSv.{inspectSv, inspectRawSv}
+use Rattle.inspection.specs.Monitor.{newMonitor, resetMonitor, setMmsServiceMask, setMmsReadOnly, setBlockTestFrames, setSvMaxSmpCntGap, setRetxSchedule, setTimeMaxForwardJump, addMmsRule, addGoosePublisher, addSvPublisher}
+
+-- the nine set and add calls
+pub data Setting : Type 0 where
+  mmsServiceMask : ℕ → Setting
+  mmsReadOnly : Bool → Setting
+  mmsRule : ℕ → Bool → ℕ → Setting
+  goosePublisher : List ℕ → List ℕ → Setting
+  svPublisher : List ℕ → List ℕ → ℕ → Setting
+  blockTestFrames : Bool → Setting
+  svMaxSmpCntGap : ℕ → Setting
+  retxSchedule : RetxSchedule → Bool → Setting
+  timeMaxForwardJump : ℕ → Setting
+
+-- every call that writes a monitor
+pub data Call : Type 0 where
+  setting : Setting → Call
+  mms : MmsFrame → Call
+  goose : GooseFrame → Call
+  sv : SvFrame → Call
+  rawSv : List ℕ → ℕ → Call
+  reset : Call
+
+-- the monitor after a set or add call
+abbrev pub settingMade : Iec61850Monitor → Setting → Iec61850Monitor
+settingMade m (mmsServiceMask mask) = setMmsServiceMask m mask
+settingMade m (mmsReadOnly readOnly) = setMmsReadOnly m readOnly
+settingMade m (mmsRule mask readOnly rate) = addMmsRule m mask readOnly rate .monitor
+settingMade m (goosePublisher mac name) = addGoosePublisher m mac name .monitor
+settingMade m (svPublisher mac svid rate) = addSvPublisher m mac svid rate .monitor
+settingMade m (blockTestFrames block) = setBlockTestFrames m block
+settingMade m (svMaxSmpCntGap gap) = setSvMaxSmpCntGap m gap
+settingMade m (retxSchedule schedule enforce) = setRetxSchedule m schedule enforce
+settingMade m (timeMaxForwardJump seconds) = setTimeMaxForwardJump m seconds
+
+-- a new monitor, strict or not, with its settings made
+abbrev pub configuredMonitor : Bool → List Setting → Iec61850Monitor
+configuredMonitor strict settings = foldl settingMade (newMonitor strict) settings
+
+-- the monitor after a call
+abbrev pub called : Iec61850Monitor → Call → Iec61850Monitor
+called m (setting s) = settingMade m s
+called m (mms f) = inspectMms m f .monitor
+called m (goose f) = inspectGoose m f .monitor
+called m (sv f) = inspectSv m f .monitor
+called m (rawSv octets time) = inspectRawSv m octets time .monitor
+called m reset = resetMonitor m
+
+-- ---- calls within their types
+
+abbrev pub LegalSetting : Setting → Type 0
+LegalSetting (mmsServiceMask mask) = mask < 2 ^ 16
+LegalSetting (mmsReadOnly readOnly) = Unit {0}
+LegalSetting (mmsRule mask readOnly rate) = (mask < 2 ^ 16) × (rate < 2 ^ 16)
+LegalSetting (goosePublisher mac name) = OctetArray 6 mac × Octets name
+LegalSetting (svPublisher mac svid rate) = OctetArray 6 mac × Octets svid × (rate < 2 ^ 16)
+LegalSetting (blockTestFrames block) = Unit {0}
+LegalSetting (svMaxSmpCntGap gap) = gap < 2 ^ 16
+LegalSetting (retxSchedule schedule enforce) = (schedule .«initial_us» < 2 ^ 32) × (schedule .«t_max_us» < 2 ^ 32) × (schedule .«tolerance_pct» < 256)
+LegalSetting (timeMaxForwardJump seconds) = seconds < 2 ^ 32
+
+abbrev pub LegalCall : Call → Type 0
+LegalCall (setting s) = LegalSetting s
+LegalCall (mms f) = LegalMms f
+LegalCall (goose f) = LegalGoose f
+LegalCall (sv f) = LegalSv f
+LegalCall (rawSv octets time) = Octets octets × (time < 2 ^ 64)
+LegalCall reset = Unit {0}
+
+abbrev pub LegalCalls : List Call → Type 0
+LegalCalls [] = Unit {0}
+LegalCalls (c ∷ calls) = LegalCall c × LegalCalls calls
+
+-- a monitor that calls lead to from a new one
+pub record Reachable (m : Iec61850Monitor) : Type 0 where
+  pub strict : Bool
+  pub calls : List Call
+  pub legal : LegalCalls calls
+  pub made : m ≡ foldl called (newMonitor strict) calls

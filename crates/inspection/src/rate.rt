@@ -1,0 +1,147 @@
+// Rate limits of MMS requests, carried over from industrial/iec61850-monitor/src/lib.rs of craton-shield a31d888527
+// (Apache-2.0) and changed: a column for each field.
+ghost use mathlib.Core.Path.{_≡_};
+ghost use mathlib.Core.Bool.{false, _&&_};
+ghost use lib.Dec.{eqb};
+ghost use lib.ListN.{getD};
+ghost use Rattle.records.specs.Search.{first};
+ghost use Rattle.inspection.specs.Rate.{noBuckets, buckets, ratePlan, rateChecked};
+use records::ageing::Ageing;
+use records::ageing::EqualAges;
+use records::ageing::next_tick;
+use records::ageing::slot_for;
+use records::bucket::RateBucket;
+use records::search::Found;
+
+// Sixteen buckets, each of one invoke id.
+pub struct RateBuckets {
+    pub key: [u32; 16],
+    pub tokens: [u16; 16],
+    pub capacity: [u16; 16],
+    pub last_refill_us: [u64; 16],
+    pub ageing: Ageing,
+}
+
+// The slot that a request's bucket uses, the bucket after the request, and whether this is within its rate.
+pub struct RatePlan {
+    pub slot: usize,
+    pub bucket: RateBucket,
+    pub allowed: bool,
+}
+
+// The buckets after a request, and whether it is within its rate.
+pub struct RateChecked {
+    pub table: RateBuckets,
+    pub allowed: bool,
+}
+
+impl RateBuckets {
+    pub fn new() -> Self
+        ensures { λ r. ⌜ r ≡ noBuckets ⌝ }
+    {
+        let ageing = Ageing::new();
+        RateBuckets {
+            key: [0; 16],
+            tokens: [0; 16],
+            capacity: [0; 16],
+            last_refill_us: [0; 16],
+            ageing: ageing,
+        }
+    }
+
+    // After a bucket is stored in a slot with its key, which is a use of the slot; a slot of 16 or more changes nothing.
+    fn stored(self, slot: usize, key: u32, bucket: RateBucket) -> Self
+        ensures { λ r. ⌜ r ≡ buckets .store self slot key bucket ⌝ }
+    {
+        let mut out = self;
+        out.ageing = self.ageing.used(slot);
+        if slot >= 16 {
+            return out;
+        }
+        out.key[slot] = key;
+        out.tokens[slot] = bucket.tokens;
+        out.capacity[slot] = bucket.capacity;
+        out.last_refill_us[slot] = bucket.last_refill_us;
+        out
+    }
+}
+
+// The slot in use of a key.
+fn find_bucket<'a>(keys: &'a [u32; 16], active: &'a [bool; 16], key: u32) -> Found
+    ensures { λ r. ⌜ r ≡ first (λ i. getD (now (active .entry)) i false && eqb (getD (now (keys .entry)) i 0) key) ⌝ }
+{
+    let mut i: usize = 0;
+    loop {
+        if i >= 16 {
+            break Found::Nothing;
+        }
+        if active[i] && keys[i] == key {
+            break Found::At(i);
+        }
+        i += 1;
+    }
+}
+
+// What a request does to the columns of the buckets.
+fn rate_plan<'a>(
+    keys: &'a [u32; 16],
+    tokens: &'a [u16; 16],
+    capacity: &'a [u16; 16],
+    last_refill_us: &'a [u64; 16],
+    active: &'a [bool; 16],
+    last_used: &'a [u32; 16],
+    tick: u32,
+    key: u32,
+    max_rate: u16,
+    now_us: u64,
+) -> RatePlan
+    ensures { λ r.
+        ⌜ r ≡ ratePlan (record { key = now (keys .entry); tokens = now (tokens .entry); capacity = now (capacity .entry); «last_refill_us» = now («last_refill_us» .entry); ageing = record { active = now (active .entry); «last_used» = now («last_used» .entry); tick = tick } }) key «max_rate» «now_us» ⌝ }
+{
+    match find_bucket(keys, active, key) {
+        Found::At(i) => {
+            let left = tokens[i];
+            let most = capacity[i];
+            let time = last_refill_us[i];
+            let kept = RateBucket {
+                tokens: left,
+                capacity: most,
+                last_refill_us: time,
+            };
+            RatePlan {
+                slot: i,
+                bucket: kept.consumed(now_us),
+                allowed: kept.allows(now_us),
+            }
+        }
+        Found::Nothing => RatePlan {
+            slot: slot_for(active, last_used, next_tick(tick), EqualAges::Last),
+            bucket: RateBucket::first_call(max_rate, now_us),
+            allowed: true,
+        },
+    }
+}
+
+// The buckets after a request, and whether it is within its rate. A new key's request is; an existing bucket keeps its capacity.
+pub fn rate_check(t: RateBuckets, key: u32, max_rate: u16, now_us: u64) -> RateChecked
+    ensures { λ r. ⌜ r ≡ rateChecked t key «max_rate» «now_us» ⌝ }
+{
+    let mut out = t;
+    let plan = rate_plan(
+        &out.key,
+        &out.tokens,
+        &out.capacity,
+        &out.last_refill_us,
+        &out.ageing.active,
+        &out.ageing.last_used,
+        out.ageing.tick,
+        key,
+        max_rate,
+        now_us,
+    );
+    out = out.stored(plan.slot, key, plan.bucket);
+    RateChecked {
+        table: out,
+        allowed: plan.allowed,
+    }
+}

@@ -1,0 +1,183 @@
+// Clocks, carried over from industrial/iec61850-monitor/src/lib.rs of craton-shield a31d888527 (Apache-2.0) and changed: a
+// column for each field; no flag for a clock without a pair, since there is none.
+ghost use mathlib.Core.Path.{_≡_};
+ghost use mathlib.Core.Bool.{false, _&&_};
+ghost use mathlib.Core.Option.{some};
+ghost use lib.Dec.{eqb};
+ghost use lib.ListN.{getD};
+ghost use Rattle.records.specs.Search.{first};
+ghost use Rattle.inspection.specs.TimeField.{noClocks, clocks, hasClock, clockAlert, timePlan, timeChecked};
+use records::ageing::Ageing;
+use records::ageing::EqualAges;
+use records::ageing::next_tick;
+use records::ageing::slot_for;
+use records::search::Found;
+
+// Sixteen clocks, each of one address, with the pair of its last frame.
+pub struct TimeTrackers {
+    pub src_mac: [u64; 16],
+    pub last_t_seconds: [u32; 16],
+    pub last_t_fraction: [u32; 16],
+    pub ageing: Ageing,
+}
+
+// The slot that a frame's clock uses, and whether its pair alerts.
+pub struct TimePlan {
+    pub slot: usize,
+    pub alert: bool,
+}
+
+// The clocks after a frame, and whether its pair alerts.
+pub struct TimeChecked {
+    pub table: TimeTrackers,
+    pub alert: bool,
+}
+
+impl TimeTrackers {
+    pub fn new() -> Self
+        ensures { λ r. ⌜ r ≡ noClocks ⌝ }
+    {
+        let ageing = Ageing::new();
+        TimeTrackers {
+            src_mac: [0; 16],
+            last_t_seconds: [0; 16],
+            last_t_fraction: [0; 16],
+            ageing: ageing,
+        }
+    }
+}
+
+// Whether a pair alerts: earlier than the kept one, or further ahead in seconds than a nonzero limit.
+fn clock_alerts(
+    limit: u32,
+    kept_seconds: u32,
+    kept_fraction: u32,
+    seconds: u32,
+    fraction: u32,
+) -> bool
+    ensures { λ r. ⌜ r ≡ clockAlert limit (some («kept_seconds», «kept_fraction»)) (seconds, fraction) ⌝ }
+{
+    if seconds < kept_seconds {
+        return true;
+    }
+    if seconds == kept_seconds {
+        return fraction < kept_fraction;
+    }
+    if limit == 0 {
+        return false;
+    }
+    limit < seconds - kept_seconds
+}
+
+// The slot in use of an address.
+fn find_clock<'a>(src_macs: &'a [u64; 16], active: &'a [bool; 16], src_mac: u64) -> Found
+    ensures { λ r. ⌜ r ≡ first (λ i. getD (now (active .entry)) i false && eqb (getD (now («src_macs» .entry)) i 0) «src_mac») ⌝ }
+{
+    let mut i: usize = 0;
+    loop {
+        if i >= 16 {
+            break Found::Nothing;
+        }
+        if active[i] && src_macs[i] == src_mac {
+            break Found::At(i);
+        }
+        i += 1;
+    }
+}
+
+impl TimeTrackers {
+    // After a pair is stored in a slot with its address, which is a use of the slot; a slot of 16 or more changes nothing.
+    fn stored(self, slot: usize, src_mac: u64, seconds: u32, fraction: u32) -> Self
+        ensures { λ r. ⌜ r ≡ clocks .store self slot «src_mac» (seconds, fraction) ⌝ }
+    {
+        let mut out = self;
+        out.ageing = self.ageing.used(slot);
+        if slot >= 16 {
+            return out;
+        }
+        out.src_mac[slot] = src_mac;
+        out.last_t_seconds[slot] = seconds;
+        out.last_t_fraction[slot] = fraction;
+        out
+    }
+}
+
+// Whether a pair is checked and kept.
+fn has_clock(seconds: u32, fraction: u32) -> bool
+    ensures { λ r. ⌜ r ≡ hasClock (seconds, fraction) ⌝ }
+{
+    if seconds != 0 {
+        return true;
+    }
+    fraction != 0
+}
+
+// What a frame with a clock does to the columns of the clocks.
+fn time_plan<'a>(
+    src_macs: &'a [u64; 16],
+    last_t_seconds: &'a [u32; 16],
+    last_t_fraction: &'a [u32; 16],
+    active: &'a [bool; 16],
+    last_used: &'a [u32; 16],
+    tick: u32,
+    limit: u32,
+    src_mac: u64,
+    seconds: u32,
+    fraction: u32,
+) -> TimePlan
+    ensures { λ r.
+        ⌜ r ≡ timePlan (record { «src_mac» = now («src_macs» .entry); «last_t_seconds» = now («last_t_seconds» .entry); «last_t_fraction» = now («last_t_fraction» .entry); ageing = record { active = now (active .entry); «last_used» = now («last_used» .entry); tick = tick } }) limit «src_mac» (seconds, fraction) ⌝ }
+{
+    match find_clock(src_macs, active, src_mac) {
+        Found::At(i) => TimePlan {
+            slot: i,
+            alert: clock_alerts(
+                limit,
+                last_t_seconds[i],
+                last_t_fraction[i],
+                seconds,
+                fraction,
+            ),
+        },
+        Found::Nothing => TimePlan {
+            slot: slot_for(active, last_used, next_tick(tick), EqualAges::First),
+            alert: false,
+        },
+    }
+}
+
+// The clocks after a frame, and whether its pair goes back or too far ahead. The pair (0, 0) is neither checked nor kept.
+pub fn check_time_field(
+    t: TimeTrackers,
+    src_mac: u64,
+    t_secs: u32,
+    t_frac: u32,
+    max_forward_jump_s: u32,
+) -> TimeChecked
+    ensures { λ r. ⌜ r ≡ timeChecked t «max_forward_jump_s» «src_mac» («t_secs», «t_frac») ⌝ }
+{
+    if !has_clock(t_secs, t_frac) {
+        return TimeChecked {
+            table: t,
+            alert: false,
+        };
+    }
+    let mut out = t;
+    let plan = time_plan(
+        &out.src_mac,
+        &out.last_t_seconds,
+        &out.last_t_fraction,
+        &out.ageing.active,
+        &out.ageing.last_used,
+        out.ageing.tick,
+        max_forward_jump_s,
+        src_mac,
+        t_secs,
+        t_frac,
+    );
+    out = out.stored(plan.slot, src_mac, t_secs, t_frac);
+    TimeChecked {
+        table: out,
+        alert: plan.alert,
+    }
+}
