@@ -1,6 +1,8 @@
 pub mod AddressLaws
 pub mod SvSeqLaws
 pub mod GooseSeqLaws
+pub mod SvPublisherLaws
+pub mod ReservationLaws
 pub mod SettingLaws
 pub mod ReportLaws
 pub mod StreamTables

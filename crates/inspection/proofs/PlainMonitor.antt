@@ -33,7 +33,7 @@ use Rattle.inspection.specs.InspectGoose.{goosePair, clockFindings, stre
 use Rattle.inspection.specs.InspectSv.{svPair, rateFindings, countFindings, svTimeField, svReservation, svRegistered, svBinding, inspectSv}
 use Rattle.inspection.specs.Monitor.{countedGoose, countedSv}
 use Rattle.inspection.specs.Report.{Finding, Checked, refusal, ended, reported}
-use Rattle.inspection.specs.Reservation.{reserves, reservationOf, cbChecked, noReservations}
+use Rattle.inspection.specs.Reservation.{reservesAt, reservationOf, cbChecked, noReservations}
 use Rattle.inspection.specs.SvPublisher.{svPublisher}
 use Rattle.inspection.specs.SvSeq.{svKey, svChecked}
 use Rattle.inspection.specs.TimeField.{timeChecked}
@@ -79,7 +79,7 @@ abbrev notReserved : CbChecked
 notReserved = record { table = noReservations; hijack = false }
 
 no-hijack : (name : List ℕ) (isGoose : Bool) (address : ℕ) → cbChecked noReservations name isGoose address ≡ notReserved
-unfolding cbChecked reservationOf reserves firstFrom
+unfolding cbChecked reservationOf reservesAt firstFrom
 no-hijack name isGoose address = go (eqb (length name) 0)
   where
     go : (b : Bool) → cond b notReserved notReserved ≡ notReserved

@@ -3,17 +3,27 @@ use Prim.Native.Nat.{ℕ, _+_}
 use mathlib.Core.Bool.{Bool, _&&_, _||_}
 use mathlib.Core.List.{List}
 use lib.Dec.{eqb}
-use lib.ListN.{getD, set, replicate}
+use lib.ListN.{length, getD, set, replicate}
 use Rattle.records.specs.declared.search.Found.{Found}
 use Rattle.records.specs.Search.{firstFrom}
-use Rattle.records.specs.Name.{hasName, withName, noNames}
+use Rattle.records.specs.Name.{padded, sameName, withName, noNames}
 use Rattle.inspection.specs.declared.goose_publisher.GoosePublishers.{GoosePublishers}
 use Rattle.inspection.specs.Rules.{ruleCount}
 
+-- whether a rule of this address and name length fits an address; `same` says whether it has the control block's name
+abbrev pub ruleFits : ℕ → ℕ → ℕ → Bool → Bool
+ruleFits ruleAddress ruleLength address same = eqb ruleAddress address && (eqb ruleLength 0 || same)
+
+-- whether the rule at a place, of the columns of addresses, octets and lengths, fits an address and the name kept as these
+-- octets and this length
+unfoldable pub gooseFitsAt : List ℕ → List ℕ → List ℕ → ℕ → List ℕ → ℕ → ℕ → Bool
+gooseFitsAt addresses octets lens address name len i =
+    ruleFits (getD addresses i 0) (getD lens i 0) address (sameName octets lens i name len)
+
 -- whether the rule at a place fits an address and a control block's name
-unfoldable pub gooseFits : GoosePublishers → ℕ → List ℕ → ℕ → Bool
-gooseFits p address name i =
-    eqb (getD (p .«src_mac») i 0) address && (eqb (getD (p .«go_cb_ref» .lens) i 0) 0 || hasName (p .«go_cb_ref») i name)
+abbrev pub gooseFits : GoosePublishers → ℕ → List ℕ → ℕ → Bool
+gooseFits p address name =
+    gooseFitsAt (p .«src_mac») (p .«go_cb_ref» .octets) (p .«go_cb_ref» .lens) address (padded name (length name)) (length name)
 
 -- the place of the first rule that fits
 unfoldable pub goosePublisher : GoosePublishers → ℕ → List ℕ → Found

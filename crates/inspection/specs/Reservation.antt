@@ -7,7 +7,7 @@ use lib.ListN.{length, getD, set, replicate}
 use Rattle.records.specs.declared.search.Found.{Found}
 use Rattle.records.specs.declared.search.Found.the-variants.{At, Nothing}
 use Rattle.records.specs.Ageing.{firstFree}
-use Rattle.records.specs.Name.{hasName, withName, noNames}
+use Rattle.records.specs.Name.{padded, sameName, withName, noNames}
 use Rattle.records.specs.Search.{first}
 use Rattle.inspection.specs.declared.reservation.CbReservations.{CbReservations}
 use Rattle.inspection.specs.declared.reservation.Reserved.{Reserved}
@@ -18,9 +18,16 @@ abbrev pub sameKind : Bool → Bool → Bool
 sameKind true kind = kind
 sameKind false kind = not kind
 
+-- whether a slot, of the columns of octets, lengths, kinds and use, holds the reservation of the name kept as these octets and
+-- this length, and of a kind
+unfoldable pub reservesAt : List ℕ → List ℕ → List Bool → List Bool → List ℕ → ℕ → Bool → ℕ → Bool
+reservesAt octets lens kinds active name len isGoose i =
+    getD active i false && sameKind (getD kinds i false) isGoose && sameName octets lens i name len
+
 -- whether a slot holds the reservation of a name and kind
-unfoldable pub reserves : CbReservations → List ℕ → Bool → ℕ → Bool
-reserves r name isGoose i = getD (r .active) i false && sameKind (getD (r .«is_goose») i false) isGoose && hasName (r .«cb_ref») i name
+abbrev pub reserves : CbReservations → List ℕ → Bool → ℕ → Bool
+reserves r name isGoose =
+    reservesAt (r .«cb_ref» .octets) (r .«cb_ref» .lens) (r .«is_goose») (r .active) (padded name (length name)) (length name) isGoose
 
 -- whether a slot's client is this one
 abbrev pub ownedBy : CbReservations → ℕ → ℕ → Bool

@@ -1,8 +1,14 @@
 // GOOSE publishers, carried over from industrial/iec61850-monitor/src/lib.rs of craton-shield a31d888527 (Apache-2.0) and
 // changed: a column for each field, and no flag, since a rule below the count is always there.
 ghost use mathlib.Core.Path.{_≡_};
-ghost use Rattle.inspection.specs.GoosePublisher.{noGoosePublishers};
+ghost use Rattle.records.specs.Name.{sameName};
+ghost use Rattle.records.specs.Search.{firstFrom};
+ghost use Rattle.inspection.specs.Rules.{ruleCount};
+ghost use Rattle.inspection.specs.GoosePublisher.{ruleFits, gooseFitsAt, noGoosePublishers};
+use crate::rules::rule_count;
 use records::name::Names;
+use records::name::same_name;
+use records::search::Found;
 
 // At most sixteen publishers, in the order in which they were added. An empty name fits any name of its address.
 pub struct GoosePublishers {
@@ -21,5 +27,61 @@ impl GoosePublishers {
             go_cb_ref: names,
             count: 0,
         }
+    }
+}
+
+// Whether the rule at a place, of this address and name length, fits an address and a control block's name.
+pub fn rule_fits<'a>(
+    rule_mac: u64,
+    rule_len: u8,
+    octets: &'a [u8; 1024],
+    lens: &'a [u8; 16],
+    place: usize,
+    src_mac: u64,
+    go_cb_ref: &'a [u8; 64],
+    go_cb_ref_len: u8,
+) -> bool
+    ensures { λ r. ⌜ r ≡ ruleFits «rule_mac» «rule_len» «src_mac» (sameName (now (octets .entry)) (now (lens .entry)) place (now («go_cb_ref» .entry)) «go_cb_ref_len») ⌝ }
+{
+    if rule_mac != src_mac {
+        return false;
+    }
+    if rule_len == 0 {
+        return true;
+    }
+    same_name(octets, lens, place, go_cb_ref, go_cb_ref_len)
+}
+
+// The place of the first rule that fits.
+pub fn goose_publisher<'a>(
+    src_macs: &'a [u64; 16],
+    octets: &'a [u8; 1024],
+    lens: &'a [u8; 16],
+    count: u8,
+    src_mac: u64,
+    go_cb_ref: &'a [u8; 64],
+    go_cb_ref_len: u8,
+) -> Found
+    ensures { λ r. ⌜ r ≡ firstFrom (gooseFitsAt (now («src_macs» .entry)) (now (octets .entry)) (now (lens .entry)) «src_mac» (now («go_cb_ref» .entry)) «go_cb_ref_len») 0 (ruleCount count) ⌝ }
+{
+    let n = rule_count(count);
+    let mut i: usize = 0;
+    loop {
+        if i >= n {
+            break Found::Nothing;
+        }
+        if rule_fits(
+            src_macs[i],
+            lens[i],
+            octets,
+            lens,
+            i,
+            src_mac,
+            go_cb_ref,
+            go_cb_ref_len,
+        ) {
+            break Found::At(i);
+        }
+        i += 1;
     }
 }

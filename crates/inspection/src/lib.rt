@@ -6,6 +6,7 @@ pub mod mms_rule;
 pub mod monitor;
 pub mod rate;
 pub mod reservation;
+pub mod rules;
 pub mod settings;
 pub mod sv_publisher;
 pub mod sv_seq;

@@ -1,7 +1,12 @@
 // MMS rules, carried over from industrial/iec61850-monitor/src/lib.rs of craton-shield a31d888527 (Apache-2.0) and changed: a
 // column for each field, and no flag, since a rule below the count is always there.
 ghost use mathlib.Core.Path.{_≡_};
-ghost use Rattle.inspection.specs.MmsRule.{noMmsRules};
+ghost use lib.ListN.{getD};
+ghost use Rattle.records.specs.Search.{firstFrom};
+ghost use Rattle.inspection.specs.Rules.{ruleCount};
+ghost use Rattle.inspection.specs.MmsRule.{hasBit, applies, noMmsRules};
+use crate::rules::rule_count;
+use records::search::Found;
 
 // At most sixteen rules, in the order in which they were added.
 pub struct MmsRules {
@@ -21,5 +26,42 @@ impl MmsRules {
             max_rate_per_sec: [0; 16],
             count: 0,
         }
+    }
+}
+
+// Whether a mask has the bit of a raw number, which is below 16.
+pub fn has_bit(mask: u16, raw: u8) -> bool
+    ensures { λ r. ⌜ r ≡ hasBit mask raw ⌝ }
+{
+    if raw >= 16 {
+        return false;
+    }
+    (mask >> raw) % 2 == 1
+}
+
+// Whether a rule of this mask applies to a raw number.
+pub fn applies(mask: u16, raw: u8) -> bool
+    ensures { λ r. ⌜ r ≡ applies mask raw ⌝ }
+{
+    if mask == 0xFFFF {
+        return true;
+    }
+    has_bit(mask, raw)
+}
+
+// The place of the first rule that applies.
+pub fn first_rule(service_mask: &[u16; 16], count: u8, raw: u8) -> Found
+    ensures { λ r. ⌜ r ≡ firstFrom (λ i. applies (getD (now («service_mask» .entry)) i 0) raw) 0 (ruleCount count) ⌝ }
+{
+    let n = rule_count(count);
+    let mut i: usize = 0;
+    loop {
+        if i >= n {
+            break Found::Nothing;
+        }
+        if applies(service_mask[i], raw) {
+            break Found::At(i);
+        }
+        i += 1;
     }
 }

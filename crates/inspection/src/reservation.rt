@@ -1,8 +1,19 @@
 // Reservations of control blocks, carried over from industrial/iec61850-monitor/src/lib.rs of craton-shield a31d888527
 // (Apache-2.0) and changed: a column for each field; no last use, which nothing reads.
 ghost use mathlib.Core.Path.{_≡_};
-ghost use Rattle.inspection.specs.Reservation.{noReservations};
+ghost use mathlib.Core.Bool.{_&&_};
+ghost use lib.Dec.{eqb};
+ghost use lib.ListN.{getD};
+ghost use Rattle.records.specs.Ageing.{firstFree};
+ghost use Rattle.records.specs.Name.{nameOf};
+ghost use Rattle.records.specs.Search.{first};
+ghost use Rattle.inspection.specs.Reservation.{sameKind, reservesAt, placeOr, reserved, freedBelow, released, usedBy, cbChecked, noReservations};
+use records::ageing::first_free;
 use records::name::Names;
+use records::name::padded;
+use records::name::same_name;
+use records::name::valid_len;
+use records::search::Found;
 
 // Sixteen control blocks, each of one name and kind, its client, and the address that it is bound to.
 pub struct CbReservations {
@@ -40,4 +51,253 @@ impl CbReservations {
             active: [false; 16],
         }
     }
+}
+
+// Whether two kinds are the same.
+pub fn same_kind(a: bool, b: bool) -> bool
+    ensures { λ r. ⌜ r ≡ sameKind a b ⌝ }
+{
+    if a { b } else { !b }
+}
+
+// Whether a slot holds the reservation of a name and kind.
+pub fn reserves<'a>(
+    octets: &'a [u8; 1024],
+    lens: &'a [u8; 16],
+    kinds: &'a [bool; 16],
+    active: &'a [bool; 16],
+    name: &'a [u8; 64],
+    len: u8,
+    is_goose: bool,
+    slot: usize,
+) -> bool
+    ensures { λ r. ⌜ r ≡ reservesAt (now (octets .entry)) (now (lens .entry)) (now (kinds .entry)) (now (active .entry)) (now (name .entry)) len «is_goose» slot ⌝ }
+{
+    if slot >= 16 {
+        return false;
+    }
+    if !active[slot] {
+        return false;
+    }
+    if !same_kind(kinds[slot], is_goose) {
+        return false;
+    }
+    same_name(octets, lens, slot, name, len)
+}
+
+// The slot of the reservation of a name and kind.
+pub fn find_reservation<'a>(
+    octets: &'a [u8; 1024],
+    lens: &'a [u8; 16],
+    kinds: &'a [bool; 16],
+    active: &'a [bool; 16],
+    name: &'a [u8; 64],
+    len: u8,
+    is_goose: bool,
+) -> Found
+    ensures { λ r. ⌜ r ≡ first (reservesAt (now (octets .entry)) (now (lens .entry)) (now (kinds .entry)) (now (active .entry)) (now (name .entry)) len «is_goose») ⌝ }
+{
+    let mut i: usize = 0;
+    loop {
+        if i >= 16 {
+            break Found::Nothing;
+        }
+        if reserves(octets, lens, kinds, active, name, len, is_goose, i) {
+            break Found::At(i);
+        }
+        i += 1;
+    }
+}
+
+// The slot of a client's reservation of a name and kind.
+pub fn find_owned<'a>(
+    octets: &'a [u8; 1024],
+    lens: &'a [u8; 16],
+    kinds: &'a [bool; 16],
+    owners: &'a [u32; 16],
+    active: &'a [bool; 16],
+    name: &'a [u8; 64],
+    len: u8,
+    is_goose: bool,
+    client_id: u32,
+) -> Found
+    ensures { λ r. ⌜ r ≡ first (λ i. reservesAt (now (octets .entry)) (now (lens .entry)) (now (kinds .entry)) (now (active .entry)) (now (name .entry)) len «is_goose» i && eqb (getD (now (owners .entry)) i 0) «client_id») ⌝ }
+{
+    let mut i: usize = 0;
+    loop {
+        if i >= 16 {
+            break Found::Nothing;
+        }
+        if reserves(octets, lens, kinds, active, name, len, is_goose, i) {
+            if owners[i] == client_id {
+                break Found::At(i);
+            }
+        }
+        i += 1;
+    }
+}
+
+// The slot that a SelectControl takes: that of the name and kind, or a free one.
+pub fn place_for<'a>(
+    octets: &'a [u8; 1024],
+    lens: &'a [u8; 16],
+    kinds: &'a [bool; 16],
+    active: &'a [bool; 16],
+    name: &'a [u8; 64],
+    len: u8,
+    is_goose: bool,
+) -> Found
+    ensures { λ r. ⌜ r ≡ placeOr (first (reservesAt (now (octets .entry)) (now (lens .entry)) (now (kinds .entry)) (now (active .entry)) (now (name .entry)) len «is_goose»)) (firstFree (now (active .entry))) ⌝ }
+{
+    match find_reservation(octets, lens, kinds, active, name, len, is_goose) {
+        Found::At(i) => Found::At(i),
+        Found::Nothing => first_free(active),
+    }
+}
+
+// Frees the slots of a client.
+pub fn free_of_client<'a>(active: &'a mut [bool; 16], owners: &'a [u32; 16], client_id: u32)
+    ensures { λ _. ⌜ now (active .exit) ≡ freedBelow (λ i. eqb (getD (now (owners .entry)) i 0) «client_id») (now (active .entry)) 16 ⌝ }
+{
+    let mut i: usize = 0;
+    while i < 16 {
+        if owners[i] == client_id {
+            active[i] = false;
+        }
+        i += 1;
+    }
+}
+
+// SelectControl takes or takes over a name, the empty one too, and unbinds it; a full table is left as it is.
+pub fn reserve_cb(
+    t: CbReservations,
+    cb_ref: [u8; 64],
+    cb_ref_len: u8,
+    client_id: u32,
+    is_goose: bool,
+) -> Reserved
+    ensures { λ r. ⌜ r ≡ reserved t (nameOf «cb_ref» «cb_ref_len») «is_goose» «client_id» ⌝ }
+{
+    let len = valid_len(cb_ref_len);
+    let name = padded(&cb_ref, len);
+    let mut out = t;
+    let place = place_for(
+        &out.cb_ref.octets,
+        &out.cb_ref.lens,
+        &out.is_goose,
+        &out.active,
+        &name,
+        len,
+        is_goose,
+    );
+    let Found::At(i) = place else {
+        return Reserved {
+            table: out,
+            taken: false,
+        };
+    };
+    out.cb_ref = out.cb_ref.stored(i, &name, len);
+    out.is_goose[i] = is_goose;
+    out.owner_client_id[i] = client_id;
+    out.bound[i] = false;
+    out.bound_src_mac[i] = 0;
+    out.active[i] = true;
+    Reserved {
+        table: out,
+        taken: true,
+    }
+}
+
+// Cancel or Conclude frees a name of the same client, with an empty name all of that client's of both kinds.
+pub fn release_cb(
+    t: CbReservations,
+    cb_ref: [u8; 64],
+    cb_ref_len: u8,
+    client_id: u32,
+    is_goose: bool,
+) -> CbReservations
+    ensures { λ r. ⌜ r ≡ released t (nameOf «cb_ref» «cb_ref_len») «is_goose» «client_id» ⌝ }
+{
+    let len = valid_len(cb_ref_len);
+    let mut out = t;
+    if len == 0 {
+        let owners = out.owner_client_id;
+        free_of_client(&mut out.active, &owners, client_id);
+        return out;
+    }
+    let name = padded(&cb_ref, len);
+    let place = find_owned(
+        &out.cb_ref.octets,
+        &out.cb_ref.lens,
+        &out.is_goose,
+        &out.owner_client_id,
+        &out.active,
+        &name,
+        len,
+        is_goose,
+        client_id,
+    );
+    match place {
+        Found::Nothing => out,
+        Found::At(i) => {
+            out.active[i] = false;
+            out
+        }
+    }
+}
+
+// The first address to use the reservation at a place is bound, another is a hijack; a place of 16 or more changes nothing.
+pub fn used_by(t: CbReservations, place: Found, src_mac: u64) -> CbChecked
+    ensures { λ r. ⌜ r ≡ usedBy t «src_mac» place ⌝ }
+{
+    let mut checked = CbChecked {
+        table: t,
+        hijack: false,
+    };
+    let Found::At(i) = place else {
+        return checked;
+    };
+    if i >= 16 {
+        return checked;
+    }
+    let mut out = t;
+    if out.bound[i] {
+        checked.hijack = out.bound_src_mac[i] != src_mac;
+        return checked;
+    }
+    out.bound[i] = true;
+    out.bound_src_mac[i] = src_mac;
+    checked.table = out;
+    checked
+}
+
+// The use of a control block by a frame; an empty name is never looked up.
+pub fn cb_hijack_check(
+    t: CbReservations,
+    cb_ref: [u8; 64],
+    cb_ref_len: u8,
+    is_goose: bool,
+    src_mac: u64,
+) -> CbChecked
+    ensures { λ r. ⌜ r ≡ cbChecked t (nameOf «cb_ref» «cb_ref_len») «is_goose» «src_mac» ⌝ }
+{
+    let len = valid_len(cb_ref_len);
+    if len == 0 {
+        return CbChecked {
+            table: t,
+            hijack: false,
+        };
+    }
+    let name = padded(&cb_ref, len);
+    let out = t;
+    let place = find_reservation(
+        &out.cb_ref.octets,
+        &out.cb_ref.lens,
+        &out.is_goose,
+        &out.active,
+        &name,
+        len,
+        is_goose,
+    );
+    used_by(out, place, src_mac)
 }

@@ -95,11 +95,11 @@ module _ {K W I A : Type 0} {dec : Discrete K} {n : ℕ} {fresh : I → W} {step
     pub short : length l ≤ n
     pub legal : All LegalEntry l
 
-  known-lookup : (k : K) (l : List (K × W)) → All LegalEntry l → O .Known (lookup dec k l)
+  pub known-lookup : (k : K) (l : List (K × W)) → All LegalEntry l → O .Known (lookup dec k l)
   known-lookup k [] a = O .known-none
   known-lookup k (e ∷ l) a = by-cases (dec k (e .0)) (λ p. rw if-pos (a .0 .1)) (λ p. rw if-neg (known-lookup k l (a .1)))
 
-  valid-touch : {l : List (K × W)} → Valid l → (x : K × I) → Legal x → Valid (touch dec n fresh step l x)
+  pub valid-touch : {l : List (K × W)} → Valid l → (x : K × I) → Legal x → Valid (touch dec n fresh step l x)
   valid-touch {l} v x g = record {
     distinct = touch-distinct dec n fresh step l x (v .distinct);
     short = simp length-take (omega arith);
@@ -120,7 +120,7 @@ module _ {K W I A : Type 0} {dec : Discrete K} {n : ℕ} {fresh : I → W} {step
     pub differ : answer dec ans (foldl (touch dec n fresh step) l fillers) last ≢ answer dec ans (foldl (touch dec n fresh step) l′ fillers) last
 
   -- lists that differ in what their first m entries have of a key: each frame of a new key adds an entry to these, until they are all n
-  distinguished : (d b m : ℕ) {l l′ : List (K × W)} → Valid l → Valid l′ → (k : K) → O .Key k → d < b → m + d ≡ n
+  unfoldable pub distinguished : (d b m : ℕ) {l l′ : List (K × W)} → Valid l → Valid l′ → (k : K) → O .Key k → d < b → m + d ≡ n
       → lookup dec k (take m l) ≢ lookup dec k (take m l′) → Distinguished b l l′
   distinguished zero b m {l} {l′} v v′ k g h e c =
       let s = O .separating (lookup dec k l) (lookup dec k l′) (known-lookup k l (v .legal)) (known-lookup k l′ (v′ .legal))
@@ -136,7 +136,7 @@ module _ {K W I A : Type 0} {dec : Discrete K} {n : ℕ} {fresh : I → W} {step
       (λ q. c (lookup-tails dec k m _ _ l l′ refl (a .0) (a .1) (simp (take-take, without-absent dec (x .0) l (a .0), without-absent dec (x .0) l′ (a .1)) at q))) in
       record { fillers = x ∷ r .fillers; last = r .last; short = omega arith; legal = (gx, r .legal); legal-last = r .legal-last; differ = r .differ }
 
-  pub distinguish : {l l′ : List (K × W)} → Valid l → Valid l′ → l ≢ l′ → Distinguished n l l′
+  unfoldable pub distinguish : {l l′ : List (K × W)} → Valid l → Valid l′ → l ≢ l′ → Distinguished n l l′
   distinguish {l} {l′} v v′ c =
       let r = difference dec (O .decW) LegalEntry l l′ (v .legal) (v′ .legal) (v .distinct) (v′ .distinct) c in
       distinguished (n - suc (r .place)) n (suc (r .place)) v v′ (r .entry .0) (r .holds .0) (omega arith) (omega arith) (r .differ)
@@ -156,7 +156,7 @@ module _ {K W I A : Type 0} {dec : Discrete K} {n : ℕ} {fresh : I → W} {step
   left h = remembered dec n fresh step (reverse h)
 
   module _ (h h′ : List (K × I)) (g : All Legal h) (g′ : All Legal h′) where
-    pub distinguish-histories : left h ≢ left h′ → Distinguished n (left h) (left h′)
+    unfoldable pub distinguish-histories : left h ≢ left h′ → Distinguished n (left h) (left h′)
     distinguish-histories = distinguish (valid h g) (valid h′ g′)
       where
         valid : (h : List (K × I)) → All Legal h → Valid (left h)

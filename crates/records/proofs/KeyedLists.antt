@@ -1,7 +1,6 @@
 -- Laws of keyed lists: the value of a key, the list without a key, each key once.
 use Prim.Native.Nat.{ℕ, zero, suc, _+_, max, _≤_, _<_, compare·suc-suc}
 use mathlib.Core.Bool.{cond}
-use mathlib.Core.HLevel.{×-discrete}
 use mathlib.Core.List.{List, [], _∷_, _++_, map}
 use mathlib.Core.Logic.{_≢_, _↔_, by-cases, if-pos, if-neg}
 use mathlib.Core.Option.{Option, none, some, Option·none-ne-some, Option·some-ne-none, Option·some-injective}
@@ -12,6 +11,7 @@ use borrow.Author.Tests.{lt-ltb, le-ltb}
 use lib.Dec.{ltb}
 use lib.ListN.{length, take}
 use lib.Seq.{take-take}
+use Rattle.records.specs.Decide.{decidePair}
 use Rattle.records.specs.Remembered.{lookup, without, distinct, since}
 
 module _ {K A : Type 0} where
@@ -116,7 +116,7 @@ module _ {K A : Type 0} (dec : Discrete K) where
   without-shorter k (e ∷ l) = by-cases (dec k (e .0)) (λ p. simp if-pos (omega (arith, without-shorter k l))) (λ p. simp if-neg (omega (arith, without-shorter k l)))
 
   -- of more distinct keys than the list has entries, one is absent from it
-  pub absent-key : (f : ℕ → K) → ((i j : ℕ) → f i ≡ f j → i ≡ j) → (m : ℕ) (l : List (K × A)) → length l < m → (i : ℕ) × (i < m) × (lookup dec (f i) l ≡ none)
+  unfoldable pub absent-key : (f : ℕ → K) → ((i j : ℕ) → f i ≡ f j → i ≡ j) → (m : ℕ) (l : List (K × A)) → length l < m → (i : ℕ) × (i < m) × (lookup dec (f i) l ≡ none)
   absent-key f inj zero l h = absurd (omega arith)
   absent-key f inj (suc m) l h = go (lookup dec (f m) l) refl (absent-key f inj m (without dec (f m) l))
     where
@@ -244,22 +244,23 @@ module _ {K A : Type 0} (dec : Discrete K) where
     pub differ : lookup dec (entry .0) (take (suc place) l) ≢ lookup dec (entry .0) (take (suc place) l′)
 
   -- the first such place
-  pub difference : Discrete A → (P : K × A → Type 0) (l l′ : List (K × A)) → All P l → All P l′ → Distinct l → Distinct l′ → l ≢ l′ → Difference P l l′
+  unfoldable pub difference : Discrete A → (P : K × A → Type 0) (l l′ : List (K × A)) → All P l → All P l′ → Distinct l → Distinct l′ → l ≢ l′ → Difference P l l′
   difference decA P [] [] a a′ d d′ n = absurd (n refl)
   difference decA P [] (y ∷ ys) a a′ d d′ n = record { place = 0; within = omega arith; entry = y; holds = a′ .0; differ = λ q. Option·none-ne-some _ (simp if-pos at q) }
   difference decA P (x ∷ xs) [] a a′ d d′ n = record { place = 0; within = omega arith; entry = x; holds = a .0; differ = λ q. Option·some-ne-none _ (simp if-pos at q) }
-  difference decA P (x ∷ xs) (y ∷ ys) a a′ d d′ n =
-      by-cases (×-discrete dec decA x y)
-      (λ p.
-      let r = difference decA P xs ys (a .1) (a′ .1) (d .1) (d′ .1) (λ t. n (λ i. p i ∷ t i)) in
-      record {
-        place = suc (r .place);
-        within = omega arith;
-        entry = r .entry;
-        holds = r .holds;
-        differ = λ q. r .differ (lookup-tails (r .entry .0) (suc (r .place)) x y xs ys (ap (λ (e : K × A). e .0) p) (d .0) (d′ .0) q);
-      })
-      (λ p. record {
+  difference decA P (x ∷ xs) (y ∷ ys) a a′ d d′ n = go (decidePair dec decA x y) (difference decA P xs ys (a .1) (a′ .1) (d .1) (d′ .1))
+    where
+      go : Dec (x ≡ y) → (xs ≢ ys → Difference P xs ys) → Difference P (x ∷ xs) (y ∷ ys)
+      go (yes p) rest =
+          let r = rest (λ t. n (λ i. p i ∷ t i)) in
+          record {
+            place = suc (r .place);
+            within = omega arith;
+            entry = r .entry;
+            holds = r .holds;
+            differ = λ q. r .differ (lookup-tails (r .entry .0) (suc (r .place)) x y xs ys (ap (λ (e : K × A). e .0) p) (d .0) (d′ .0) q);
+          }
+      go (no p) rest = record {
         place = 0;
         within = omega arith;
         entry = x;
@@ -268,4 +269,4 @@ module _ {K A : Type 0} (dec : Discrete K) where
             by-cases (dec (x .0) (y .0))
             (λ z. p (λ i. (z i, Option·some-injective (x .1) (y .1) (simp if-pos at q) i)))
             (λ z. Option·some-ne-none (x .1) (simp (if-pos, if-neg) at q));
-      })
+      }

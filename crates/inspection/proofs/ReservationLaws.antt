@@ -1,0 +1,203 @@
+-- Laws of reservations: the test of a slot, a client's slots freed one by one, and each way out of the three changes of a table.
+use Prim.Native.Nat.{ℕ, _+_, _≤_, _<_}
+use mathlib.Core.Bool.{Bool, true, false, _&&_, not}
+use mathlib.Core.List.{List}
+use mathlib.Core.Path.{_≡_, ap, sym, _∙_, subst}
+use native.Mathlib.Numerals.{add-one}
+use native.Mathlib.Omega.{arith}
+use borrow.Author.Tests.{le-ltb, eq-eqb, ne-eqb}
+use lib.Dec.{eqb}
+use lib.ListN.{length, getD, set, List·getD-eq-default}
+use lib.Seq.{set-out}
+use Rattle.records.specs.declared.name.Names.{Names}
+use Rattle.records.specs.declared.search.Found.{Found}
+use Rattle.records.specs.declared.search.Found.the-variants.{At, Nothing}
+use Rattle.records.specs.Ageing.{firstFree}
+use Rattle.records.specs.Name.{validLen, nameOf, padded, sameName, sameOctets, nameStored}
+use Rattle.records.specs.Search.{first}
+use Rattle.records.proofs.Booleans.{and-false, cond-yes, cond-no}
+use Rattle.records.proofs.NameLaws.{length-name, padded-name}
+use Rattle.records.proofs.SearchLaws.{Searched, hit, miss, searched}
+use Rattle.inspection.specs.declared.reservation.CbReservations.{CbReservations}
+use Rattle.inspection.specs.Reservation.{sameKind, reservesAt, reserves, ownedBy, reservationOf, takenAt, placeOr, reservedAt, reserved, freedBelow, withActive, freedAt, released, boundTo, usedBy, cbChecked}
+
+-- ---- the test of a slot
+
+-- a conjunction by its first half, whose answer s is known
+pub and-no : {a s : Bool} (b : Bool) → s ≡ a → s ≡ false → a && b ≡ false
+and-no b e h = rw (sym e ∙ h)
+
+pub and-yes : {a b c s : Bool} → s ≡ a → s ≡ true → b ≡ c → a && b ≡ c
+and-yes e h k = rw (sym e ∙ h) k
+
+module _ (octets lens : List ℕ) (kinds active : List Bool) (name : List ℕ) (len : ℕ) (isGoose : Bool) (slot : ℕ) where
+  -- a slot of 16 or more holds none
+  pub reserves-past : 16 ≤ slot → reservesAt octets lens kinds active name len isGoose slot ≡ false
+  unfolding reservesAt sameName sameOctets
+  reserves-past h =
+      rw (le-ltb slot 16 h, and-false (eqb (getD lens slot 0) len)) (and-false (getD active slot false && sameKind (getD kinds slot false) isGoose))
+
+  pub reserves-unused : getD active slot false ≡ false → reservesAt octets lens kinds active name len isGoose slot ≡ false
+  unfolding reservesAt
+  reserves-unused e = rw e
+
+  pub reserves-other : getD active slot false ≡ true → sameKind (getD kinds slot false) isGoose ≡ false → reservesAt octets lens kinds active name len isGoose slot ≡ false
+  unfolding reservesAt
+  reserves-other e k = rw (e, k)
+
+  pub reserves-named :
+      getD active slot false ≡ true → sameKind (getD kinds slot false) isGoose ≡ true
+      → reservesAt octets lens kinds active name len isGoose slot ≡ sameName octets lens slot name len
+  unfolding reservesAt
+  reserves-named e k = rw (e, k)
+
+-- ---- a client's slots
+
+module _ (test : ℕ → Bool) (active : List Bool) (i : ℕ) {now : List Bool} (e : now ≡ freedBelow test active i) where
+  pub freed-one : test i ≡ true → {out : List Bool} → out ≡ set now i false → out ≡ freedBelow test active (i + 1)
+  unfolding freedBelow
+  freed-one h o = o ∙ rw (add-one, e, h)
+
+  pub freed-none : test i ≡ false → {out : List Bool} → out ≡ now → out ≡ freedBelow test active (i + 1)
+  unfolding freedBelow
+  freed-none h o = o ∙ e ∙ rw (add-one, h)
+
+-- ---- a slot that was found is one of sixteen
+
+abbrev Below : Found → Type 0
+Below (At i) = i < 16
+Below Nothing = Unit {0}
+
+searched-below : {test : ℕ → Bool} {f : Found} → Searched test 0 16 f → Below f
+searched-below (hit s h p) = omega arith
+searched-below (miss g) = tt
+
+pub found-below : (test : ℕ → Bool) {f : Found} {i : ℕ} → f ≡ first test → f ≡ At i → i < 16
+found-below test e a = subst Below (sym e ∙ a) (searched-below (searched test 0 16))
+
+pub place-below : (test : ℕ → Bool) (active : List Bool) {f : Found} {i : ℕ} → f ≡ placeOr (first test) (firstFree active) → f ≡ At i → i < 16
+unfolding firstFree
+place-below test active e a = subst Below (sym e ∙ a) (go (first test) (searched-below (searched test 0 16)))
+  where
+    go : (f : Found) → Below f → Below (placeOr f (firstFree active))
+    go (At j) b = b
+    go Nothing b = searched-below (searched _ 0 16)
+
+-- ---- the ways out of the three changes, the name that a frame states being kept as these octets and this length
+
+module _ (r : CbReservations) (octets : List ℕ) (stated : ℕ) (size : length octets ≡ 64) (isGoose : Bool) {name : List ℕ} {len : ℕ}
+    (n : len ≡ validLen stated) (p : name ≡ padded octets len) where
+  key-octets : padded (nameOf octets stated) (length (nameOf octets stated)) ≡ name
+  key-octets = padded-name octets stated size ∙ ap (λ (k : ℕ). padded octets k) (sym n) ∙ sym p
+
+  key-len : length (nameOf octets stated) ≡ len
+  key-len = length-name octets stated size ∙ sym n
+
+  abbrev holds : ℕ → Bool
+  holds = reservesAt (r .«cb_ref» .octets) (r .«cb_ref» .lens) (r .«is_goose») (r .active) name len isGoose
+
+  same-holds : reserves r (nameOf octets stated) isGoose ≡ holds
+  same-holds = rw (key-octets, key-len)
+
+  same-place : reservationOf r (nameOf octets stated) isGoose ≡ first holds
+  unfolding reservationOf
+  same-place = ap (λ (t : ℕ → Bool). first t) same-holds
+
+  -- SelectControl
+  module _ (client : ℕ) {f : Found} (e : f ≡ placeOr (first holds) (firstFree (r .active))) where
+    answer : reservedAt r (nameOf octets stated) isGoose client f ≡ reserved r (nameOf octets stated) isGoose client
+    unfolding reserved
+    answer =
+        ap (λ (x : Found). reservedAt r (nameOf octets stated) isGoose client x)
+        (e ∙ sym (ap (λ (x : Found). placeOr x (firstFree (r .active))) same-place))
+
+    pub reserved-full : f ≡ Nothing → record { table = r; taken = false } ≡ reserved r (nameOf octets stated) isGoose client
+    reserved-full a = sym (ap (λ (x : Found). reservedAt r (nameOf octets stated) isGoose client x) a) ∙ answer
+
+    pub reserved-at :
+        {i : ℕ} {names : Names} → f ≡ At i → names ≡ nameStored (r .«cb_ref») i name len
+        → record {
+          table = record {
+            «cb_ref» = names;
+            «is_goose» = set (r .«is_goose») i isGoose;
+            «owner_client_id» = set (r .«owner_client_id») i client;
+            bound = set (r .bound) i false;
+            «bound_src_mac» = set (r .«bound_src_mac») i 0;
+            active = set (r .active) i true;
+          };
+          taken = true;
+        }
+        ≡ reserved r (nameOf octets stated) isGoose client
+    unfolding takenAt
+    reserved-at {i} a q =
+        let names = q ∙ (λ k. nameStored (r .«cb_ref») i (sym key-octets k) (sym key-len k)) in
+        (λ k. record {
+          table = record {
+            «cb_ref» = names k;
+            «is_goose» = set (r .«is_goose») i isGoose;
+            «owner_client_id» = set (r .«owner_client_id») i client;
+            bound = set (r .bound) i false;
+            «bound_src_mac» = set (r .«bound_src_mac») i 0;
+            active = set (r .active) i true;
+          };
+          taken = true;
+        })
+        ∙ sym (ap (λ (x : Found). reservedAt r (nameOf octets stated) isGoose client x) a)
+        ∙ answer
+
+  -- Cancel or Conclude
+  pub released-all :
+      (client : ℕ) {active : List Bool} → len ≡ 0 → active ≡ freedBelow (ownedBy r client) (r .active) 16
+      → withActive r active ≡ released r (nameOf octets stated) isGoose client
+  unfolding released
+  released-all client z a = (λ k. withActive r (a k)) ∙ sym (cond-yes _ _ (eq-eqb (length (nameOf octets stated)) 0 (key-len ∙ z)))
+
+  pub released-found :
+      (client : ℕ) {f g : Found} → (len ≡ 0 → ⊥) → f ≡ first (λ i. holds i && ownedBy r client i) → f ≡ g
+      → freedAt r g ≡ released r (nameOf octets stated) isGoose client
+  unfolding released
+  released-found client z e a =
+      ap (λ (x : Found). freedAt r x) (sym a ∙ e ∙ sym (ap (λ (t : ℕ → Bool). first (λ i. t i && ownedBy r client i)) same-holds))
+      ∙ sym (cond-no _ _ (ne-eqb (length (nameOf octets stated)) 0 (λ q. z (sym key-len ∙ q))))
+
+  -- the use by a frame
+  pub checked-empty : (address : ℕ) → len ≡ 0 → record { table = r; hijack = false } ≡ cbChecked r (nameOf octets stated) isGoose address
+  unfolding cbChecked
+  checked-empty address z = sym (cond-yes _ _ (eq-eqb (length (nameOf octets stated)) 0 (key-len ∙ z)))
+
+  pub checked-found :
+      (address : ℕ) {f : Found} → (len ≡ 0 → ⊥) → f ≡ first holds → usedBy r address f ≡ cbChecked r (nameOf octets stated) isGoose address
+  unfolding cbChecked
+  checked-found address z e =
+      ap (λ (x : Found). usedBy r address x) (e ∙ sym same-place)
+      ∙ sym (cond-no _ _ (ne-eqb (length (nameOf octets stated)) 0 (λ q. z (sym key-len ∙ q))))
+
+-- ---- the use of a slot by an address
+
+module _ (r : CbReservations) (address : ℕ) {f : Found} where
+  pub used-none : f ≡ Nothing → record { table = r; hijack = false } ≡ usedBy r address f
+  used-none a = sym (ap (λ (x : Found). usedBy r address x) a)
+
+  module _ {i : ℕ} (a : f ≡ At i) where
+    pub used-bound : getD (r .bound) i false ≡ true → record { table = r; hijack = not (eqb (getD (r .«bound_src_mac») i 0) address) } ≡ usedBy r address f
+    used-bound b = sym (ap (λ (x : Found). usedBy r address x) a ∙ cond-yes _ _ b)
+
+    pub used-first : getD (r .bound) i false ≡ false → record { table = boundTo r i address; hijack = false } ≡ usedBy r address f
+    used-first b = sym (ap (λ (x : Found). usedBy r address x) a ∙ cond-no _ _ b)
+
+    -- a slot of 16 or more changes nothing
+    pub used-past : length (r .bound) ≡ 16 → length (r .«bound_src_mac») ≡ 16 → 16 ≤ i → record { table = r; hijack = false } ≡ usedBy r address f
+    unfolding boundTo
+    used-past l m h =
+        (λ k. record {
+          table = record {
+            «cb_ref» = r .«cb_ref»;
+            «is_goose» = r .«is_goose»;
+            «owner_client_id» = r .«owner_client_id»;
+            bound = sym (set-out (r .bound) i true (omega arith)) k;
+            «bound_src_mac» = sym (set-out (r .«bound_src_mac») i address (omega arith)) k;
+            active = r .active;
+          };
+          hijack = false;
+        })
+        ∙ used-first (List·getD-eq-default (r .bound) false {n = i} (omega arith))

@@ -1,0 +1,39 @@
+-- Laws of what rules tell of an svID and an address: whether one has the svID, and the last place that has the address too.
+use Prim.Native.Nat.{ℕ, _+_}
+use mathlib.Core.Bool.{Bool, true, false, _&&_}
+use mathlib.Core.Path.{_≡_, refl, sym, _∙_}
+use native.Mathlib.Numerals.{add-one}
+use Rattle.records.specs.declared.search.Found.{Found}
+use Rattle.records.specs.declared.search.Found.the-variants.{At, Nothing}
+use Rattle.records.specs.Search.{lastBelow, isFound}
+use Rattle.inspection.specs.SvPublisher.{publisherAt}
+
+module _ (named addressed : ℕ → Bool) where
+  -- what the first i rules tell
+  pub record Told (i : ℕ) (registered : Bool) (place : Found) : Type 0 where
+    pub registered-is : registered ≡ isFound (lastBelow named i)
+    pub place-is : place ≡ lastBelow (λ j. named j && addressed j) i
+
+  pub told-none : Told 0 false Nothing
+  unfolding lastBelow
+  told-none = record { registered-is = refl; place-is = refl }
+
+  module _ {i : ℕ} {registered : Bool} {place : Found} (t : Told i registered place) {same : Bool} (s : same ≡ named i)
+      {r : Bool} {p : Found} where
+    pub told-fits : same ≡ true → addressed i ≡ true → r ≡ true → p ≡ At i → Told (i + 1) r p
+    unfolding lastBelow
+    told-fits n a e f = record { registered-is = e ∙ rw (add-one, sym s ∙ n); place-is = f ∙ rw (add-one, sym s ∙ n, a) }
+
+    pub told-wrong : same ≡ true → addressed i ≡ false → r ≡ true → p ≡ place → Told (i + 1) r p
+    unfolding lastBelow
+    told-wrong n a e f = record { registered-is = e ∙ rw (add-one, sym s ∙ n); place-is = f ∙ t .place-is ∙ rw (add-one, sym s ∙ n, a) }
+
+    pub told-other : same ≡ false → r ≡ registered → p ≡ place → Told (i + 1) r p
+    unfolding lastBelow
+    told-other n e f = record { registered-is = e ∙ t .registered-is ∙ rw (add-one, sym s ∙ n); place-is = f ∙ t .place-is ∙ rw (add-one, sym s ∙ n) }
+
+  -- what all n rules tell
+  pub told-all :
+      {i n : ℕ} {registered : Bool} {place : Found} → Told i registered place → i ≡ n
+      → publisherAt registered place ≡ publisherAt (isFound (lastBelow named n)) (lastBelow (λ j. named j && addressed j) n)
+  told-all t e = rw (t .registered-is, t .place-is, e)

@@ -1,0 +1,78 @@
+-- `find_owned` meets its contract. The invariant: the search from slot i on is the whole search.
+use mathlib.Core.Path.{_≡_, refl, sym, _∙_}
+use mathlib.Core.Bool.{_&&_}
+use mathlib.Core.Logic.{⊎-elim}
+use Prim.Native.Nat.{_≤_, _-_}
+use native.Mathlib.Omega.{arith}
+use borrow.Author.Needs.{needs}
+use borrow.Author.Tests.{eq-eqb, ne-eqb}
+use lib.Dec.{eqb}
+use lib.ListN.{getD}
+use Rattle.records.specs.Search.{first, firstFrom}
+use Rattle.records.proofs.SearchLaws.{first-hit, first-miss, first-none}
+use Rattle.inspection.specs.Reservation.{reservesAt}
+use Rattle.inspection.proofs.ReservationLaws.{and-no, and-yes}
+use Rattle.inspection.proofs.reservation.find_owned.Statement.{statement}
+use Rattle.inspection.proofs.reservation.find_owned.Tie as tie
+
+abbrev Inv-loop : tie.InvT-loop
+Inv-loop octets lens kinds owners active name len is-goose client i₀ i =
+    (i ≤ 16)
+    × (first (λ j. reservesAt octets lens kinds active name len is-goose j && eqb (getD owners j 0) client)
+    ≡ firstFrom (λ j. reservesAt octets lens kinds active name len is-goose j && eqb (getD owners j 0) client) i (16 - i))
+
+abbrev μ-loop : tie.MeasureT-loop
+μ-loop octets lens kinds owners active name len is-goose client i₀ i = 16 - i
+
+loop-holds : tie.Need-loop-holds Inv-loop μ-loop
+loop-holds c = (omega arith, refl)
+
+reserves-requires : tie.Need-reserves-requires Inv-loop μ-loop
+reserves-requires c κs = search needs
+
+mul-if3 : tie.Need-mul-if3 Inv-loop μ-loop
+mul-if3 c = omega arith
+
+element-copy-out-if3 : tie.Need-element-copy-out-if3 Inv-loop μ-loop
+element-copy-out-if3 c = omega arith
+
+add-i : tie.Need-add-i Inv-loop μ-loop
+add-i c = omega arith
+
+loop-less : tie.Need-loop-less Inv-loop μ-loop
+loop-less c = omega arith
+
+loop-again : tie.Need-loop-again Inv-loop μ-loop
+loop-again c =
+    let l = c .before .before .before .loop in
+    let same = c .before .reserves .ensures in (
+      omega arith,
+      l .inv .1
+          ∙ first-miss _ _ _ (omega arith)
+          (⊎-elim (λ w. and-yes same (w .0 .taken) (ne-eqb _ _ (w .2 .left))) (λ w. and-no _ same (w .left)) (c .if2 .came)),
+    )
+
+returns : tie.Need-returns Inv-loop μ-loop
+returns c = sym (c .before .loop .inv .1 ∙ first-none _ _ _ (omega arith))
+
+returns-2 : tie.Need-returns-2 Inv-loop μ-loop
+returns-2 c =
+    let t = c .before .before in
+    let l = t .before .before .before .loop in
+    sym (l .inv .1 ∙ first-hit _ _ _ (omega arith) (and-yes (t .before .reserves .ensures) (t .if2 .taken) (eq-eqb _ _ (c .if3 .taken))))
+
+pub find-owned-spec : {M : Type 1} → statement M
+find-owned-spec =
+    tie.close
+    (tie.spec
+    Inv-loop
+    μ-loop
+    loop-holds
+    reserves-requires
+    mul-if3
+    element-copy-out-if3
+    add-i
+    loop-less
+    loop-again
+    returns
+    returns-2)
