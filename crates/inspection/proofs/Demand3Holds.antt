@@ -1,35 +1,37 @@
 -- Demand 3 holds: the tables answer as the remembered lists, and unequal lists are distinguished, streams first and then clocks.
 use Prim.Native.Nat.{ℕ, suc, _+_, _≤_, _<_, _^_}
 use mathlib.Core.Bool.{Bool, true, false, _&&_, cond}
-use mathlib.Core.HLevel.{×-discrete}
-use mathlib.Core.List.{List, [], _∷_, _++_, foldl, reverse, List-discrete}
+use mathlib.Core.List.{List, [], _∷_, _++_, foldl, reverse}
 use mathlib.Core.Logic.{_≢_, _↔_}
 use mathlib.Core.Option.{Option, none, some}
 use mathlib.Core.Path.{_≡_, refl, sym, ap, _∙_}
 use native.Mathlib.Decide.{ℕ-discrete}
 use native.Mathlib.Omega.{arith}
-use lib.ListN.{length, replicate, length-append, length-replicate}
+use lib.ListN.{length, replicate, length-append, length-take}
 use Rattle.records.specs.declared.frame.GooseFrame.{GooseFrame}
 use Rattle.records.specs.declared.frame.SvFrame.{SvFrame}
+use Rattle.records.specs.Decide.{decidePair, decideList}
 use Rattle.records.specs.Legal.{LegalGoose, LegalSv, OctetArray}
-use Rattle.records.specs.Name.{nameOf}
+use Rattle.records.specs.Name.{validLen, nameOf, padded}
 use Rattle.records.specs.Remembered.{lookup}
 use Rattle.records.proofs.Booleans.{and-false}
 use Rattle.records.proofs.Distinguish.{outputs-last, answer, Legal as LegalFrame, Distinguished as ListsDistinguished, left, distinguish-histories}
 use Rattle.records.proofs.KeyedLists.{All}
-use Rattle.records.proofs.Lists.{getD-constant}
+use Rattle.records.proofs.NameLaws.{name-padded}
+use Rattle.records.proofs.OctetLaws.{octets-take, array-zeros, array-padded}
 use Rattle.inspection.specs.declared.monitor.Iec61850Monitor.{Iec61850Monitor}
 use Rattle.inspection.specs.declared.settings.Settings.{Settings}
 use Rattle.inspection.specs.Address.{addressOf}
 use Rattle.inspection.specs.Calls.{Setting, configuredMonitor}
-use Rattle.inspection.specs.Demand3.{Inspection, goose, sv, Legal, inspect, afterHistory, answers, Answer, blocked, svReaches, gooseReaches, ifClock, clockReaches, reaching, RememberedLists, rememberedLists, Premises, Distinguished, SameAnswers, EqualLists, Demand3}
+use Rattle.inspection.specs.Demand3.{Inspection, goose, sv, Legal, inspect, afterHistory, answers, Answer, blocked, svReaches, gooseReaches, ifClock, clockReaches, reaching, RememberedLists, rememberedLists, JumpLimit, Premises, Distinguished, SameAnswers, EqualLists, Demand3}
 use Rattle.inspection.specs.GooseSeq.{gooseKey, gooseNumbers}
 use Rattle.inspection.specs.InspectGoose.{clockFindings, goosePair}
 use Rattle.inspection.specs.InspectSv.{countFindings, svPair}
 use Rattle.inspection.specs.Report.{Finding}
 use Rattle.inspection.specs.SvSeq.{svKey, svOutcome}
 use Rattle.inspection.specs.TimeField.{hasClock, clockAlert}
-use Rattle.inspection.proofs.Observables.{Stated, Sent, Hashed, Numbers, svAnswer, svObservable, gooseAnswer, gooseObservable, clockObservable}
+use Rattle.inspection.proofs.AddressLaws.{addressOctets, address-octets, address-back, address-fits}
+use Rattle.inspection.proofs.Observables.{Name, Hash, Numbers, svAnswer, svObservable, gooseAnswer, gooseObservable, clockObservable}
 use Rattle.inspection.proofs.PlainMonitor.{Plain, Left, left as leftBy, answers-from}
 use Rattle.inspection.proofs.RememberedLaws.{names≟, pairs≟, touchSv, touchGoose, touchClock, move, moved, found, listAnswer, listAnswers, remembered-lists, remembers-history, answers-lists, newRemembering, remembers-new}
 use Rattle.inspection.proofs.ReportLaws.{answerFrom, length-codes}
@@ -37,51 +39,56 @@ use Rattle.inspection.proofs.SettingLaws.{configured-untouched}
 
 -- ---- inspections made of frames of keys
 
-LegalOne : Inspection → Type 0
+pub LegalOne : Inspection → Type 0
 LegalOne (goose f) = LegalGoose f
 LegalOne (sv f) = LegalSv f
 
-legal-cons : (x : Inspection) (h : List Inspection) → LegalOne x → Legal h → Legal (x ∷ h)
+pub legal-cons : (x : Inspection) (h : List Inspection) → LegalOne x → Legal h → Legal (x ∷ h)
 unfolding LegalOne
 legal-cons (goose f) h g a = (g, a)
 legal-cons (sv f) h g a = (g, a)
 
+pub legal-append : (a b : List Inspection) → Legal a → Legal b → Legal (a ++ b)
+legal-append [] b g h = h
+legal-append (goose f ∷ a) b g h = (g .0, legal-append a b (g .1) h)
+legal-append (sv f ∷ a) b g h = (g .0, legal-append a b (g .1) h)
+
 module _ {K I : Type 0} {P : K × I → Type 0} (make : (x : K × I) → P x → Inspection) where
-  made : (xs : List (K × I)) → All P xs → List Inspection
+  unfoldable pub made : (xs : List (K × I)) → All P xs → List Inspection
   made [] a = []
   made (x ∷ xs) a = make x (a .0) ∷ made xs (a .1)
 
   -- frames, then one more
-  abbrev withLast : (xs : List (K × I)) → All P xs → (x : K × I) → P x → List Inspection
+  abbrev pub withLast : (xs : List (K × I)) → All P xs → (x : K × I) → P x → List Inspection
   withLast xs a x p = made xs a ++ make x p ∷ []
 
 module _ {K I : Type 0} {P : K × I → Type 0} (make : (x : K × I) → P x → Inspection) where
-  length-made : (xs : List (K × I)) (a : All P xs) → length (made make xs a) ≡ length xs
+  pub length-made : (xs : List (K × I)) (a : All P xs) → length (made make xs a) ≡ length xs
   unfolding made
   length-made [] a = refl
   length-made (x ∷ xs) a = ap suc (length-made xs (a .1))
 
-  legal-made : ((x : K × I) (p : P x) → LegalOne (make x p)) → (xs : List (K × I)) (a : All P xs) (x : K × I) (p : P x) → Legal (withLast make xs a x p)
+  pub legal-made : ((x : K × I) (p : P x) → LegalOne (make x p)) → (xs : List (K × I)) (a : All P xs) (x : K × I) (p : P x) → Legal (withLast make xs a x p)
   unfolding made
   legal-made g [] a x p = legal-cons (make x p) [] (g x p) tt
   legal-made g (y ∷ xs) a x p = legal-cons (make y (a .0)) (withLast make xs (a .1) x p) (g y (a .0)) (legal-made g xs (a .1) x p)
 
-  reaching-made : (reaches : Inspection → List (K × I)) → ((x : K × I) (p : P x) → reaches (make x p) ≡ x ∷ []) → (xs : List (K × I)) (a : All P xs) → reaching reaches (made make xs a) ≡ xs
+  pub reaching-made : (reaches : Inspection → List (K × I)) → ((x : K × I) (p : P x) → reaches (make x p) ≡ x ∷ []) → (xs : List (K × I)) (a : All P xs) → reaching reaches (made make xs a) ≡ xs
   unfolding made
   reaching-made reaches e [] a = refl
   reaching-made reaches e (x ∷ xs) a = rw (e x (a .0), reaching-made reaches e xs (a .1))
 
 -- ---- lists that further inspections tell apart
 
-record Further (s : Settings) (l l′ : RememberedLists) : Type 0 where
-  further : List Inspection
-  legal : Legal further
-  short : length further ≤ 16
-  unequal : listAnswers s l further ≢ listAnswers s l′ further
+pub record Further (s : Settings) (l l′ : RememberedLists) : Type 0 where
+  pub further : List Inspection
+  pub legal : Legal further
+  pub short : length further ≤ 16
+  pub unequal : listAnswers s l further ≢ listAnswers s l′ further
 
 module _ {K I : Type 0} {P : K × I → Type 0} (s : Settings) (l l′ : RememberedLists) (make : (x : K × I) → P x → Inspection) (legal : (x : K × I) (p : P x) → LegalOne (make x p)) where
   -- fewer than sixteen inspections, and one that is answered differently after them
-  further-of : (xs : List (K × I)) (a : All P xs) (x : K × I) (p : P x) → length xs < 16
+  unfoldable pub further-of : (xs : List (K × I)) (a : All P xs) (x : K × I) (p : P x) → length xs < 16
       → listAnswer s (foldl (move s) l (made make xs a)) (make x p) ≢ listAnswer s (foldl (move s) l′ (made make xs a)) (make x p) → Further s l l′
   further-of xs a x p h d = record {
     further = withLast make xs a x p;
@@ -90,17 +97,14 @@ module _ {K I : Type 0} {P : K × I → Type 0} (s : Settings) (l l′ : Remembe
     unequal = λ q. d (outputs-last (listAnswer s) (move s) l l′ (made make xs a) (make x p) q);
   }
 
-zeros : (n : ℕ) → OctetArray n (replicate n 0)
-zeros n = record { size = length-replicate n 0; octets = λ k. rw (getD-constant {E = ℕ} n k 0) (omega arith) }
-
 -- ---- SV streams: a frame without a clock
 
 module _ (gap : ℕ) where
-  svFrameOf : (x : List ℕ × ℕ) → LegalFrame (svObservable gap) x → SvFrame
+  unfoldable pub svFrameOf : (x : List ℕ × ℕ) → LegalFrame (svObservable gap) x → SvFrame
   svFrameOf x p = record {
     «src_mac» = replicate 6 0;
-    «svid_len» = p .0 .len;
-    svid = p .0 .octets;
+    «svid_len» = length (x .0);
+    svid = padded (x .0) (length (x .0));
     «smp_cnt» = x .1;
     «smp_rate» = 0;
     «dataset_ref_len» = 0;
@@ -110,37 +114,37 @@ module _ (gap : ℕ) where
     «t_fraction_of_second» = 0;
   }
 
-  svInspection : (x : List ℕ × ℕ) → LegalFrame (svObservable gap) x → Inspection
+  unfoldable pub svInspection : (x : List ℕ × ℕ) → LegalFrame (svObservable gap) x → Inspection
   svInspection x p = sv (svFrameOf x p)
 
-  sv-frame-legal : (x : List ℕ × ℕ) (p : LegalFrame (svObservable gap) x) → LegalOne (svInspection x p)
+  pub sv-frame-legal : (x : List ℕ × ℕ) (p : LegalFrame (svObservable gap) x) → LegalOne (svInspection x p)
   unfolding svFrameOf svInspection LegalOne
   sv-frame-legal x p = record {
-    source = zeros 6;
-    svid-length = p .0 .byte;
-    svid-octets = p .0 .array;
+    source = array-zeros 6;
+    svid-length = omega (arith, p .0 .short);
+    svid-octets = array-padded (x .0) (length (x .0)) (p .0 .octets);
     count = p .1;
     rate = omega arith;
     dataset-length = omega arith;
-    dataset-octets = zeros 64;
+    dataset-octets = array-zeros 64;
     time = omega arith;
     seconds = omega arith;
     fraction = omega arith;
   }
 
 module _ (s : Settings) where
-  abbrev gapOf : ℕ
+  abbrev pub gapOf : ℕ
   gapOf = s .«sv_max_smp_cnt_gap»
 
-  sv-reaches : (x : List ℕ × ℕ) (p : LegalFrame (svObservable gapOf) x) → svReaches s (svInspection gapOf x p) ≡ x ∷ []
+  pub sv-reaches : (x : List ℕ × ℕ) (p : LegalFrame (svObservable gapOf) x) → svReaches s (svInspection gapOf x p) ≡ x ∷ []
   unfolding svFrameOf svInspection
-  sv-reaches x p = rw (p .0 .states)
+  sv-reaches x p = rw (name-padded (x .0) (p .0 .short))
 
-  sv-answer : (l : RememberedLists) (x : List ℕ × ℕ) (p : LegalFrame (svObservable gapOf) x) → listAnswer s l (svInspection gapOf x p) ≡ answer names≟ (svAnswer gapOf) (l .svStreams) x
+  pub sv-answer : (l : RememberedLists) (x : List ℕ × ℕ) (p : LegalFrame (svObservable gapOf) x) → listAnswer s l (svInspection gapOf x p) ≡ answer names≟ (svAnswer gapOf) (l .svStreams) x
   unfolding svFrameOf svInspection hasClock
-  sv-answer l x p = rw (p .0 .states)
+  sv-answer l x p = rw (name-padded (x .0) (p .0 .short))
 
-  sv-further : (l l′ : RememberedLists) → ListsDistinguished (svObservable gapOf) 16 (l .svStreams) (l′ .svStreams) → Further s l l′
+  unfoldable pub sv-further : (l l′ : RememberedLists) → ListsDistinguished (svObservable gapOf) 16 (l .svStreams) (l′ .svStreams) → Further s l l′
   sv-further l l′ d =
       further-of s l l′ (svInspection gapOf) (sv-frame-legal gapOf) (d .fillers) (d .legal) (d .last) (d .legal-last) (d .short)
       (λ q. d .differ (sym (at l) ∙ q ∙ at l′))
@@ -158,11 +162,11 @@ module _ (s : Settings) where
 
 -- ---- GOOSE streams: a frame without a clock, not a test
 
-gooseFrameOf : (x : (ℕ × ℕ) × (ℕ × ℕ)) → LegalFrame gooseObservable x → GooseFrame
+pub gooseFrameOf : (x : (ℕ × ℕ) × (ℕ × ℕ)) → LegalFrame gooseObservable x → GooseFrame
 gooseFrameOf x p = record {
-  «src_mac» = p .0 .0 .mac;
-  «go_cb_ref» = p .0 .1 .stated .octets;
-  «go_cb_ref_len» = p .0 .1 .stated .len;
+  «src_mac» = addressOctets (x .0 .0);
+  «go_cb_ref» = padded (p .0 .1 .name) (length (p .0 .1 .name));
+  «go_cb_ref_len» = length (p .0 .1 .name);
   «st_num» = x .1 .0;
   «sq_num» = x .1 .1;
   test = false;
@@ -171,15 +175,15 @@ gooseFrameOf x p = record {
   «t_fraction_of_second» = 0;
 }
 
-gooseInspection : (x : (ℕ × ℕ) × (ℕ × ℕ)) → LegalFrame gooseObservable x → Inspection
+pub gooseInspection : (x : (ℕ × ℕ) × (ℕ × ℕ)) → LegalFrame gooseObservable x → Inspection
 gooseInspection x p = goose (gooseFrameOf x p)
 
-goose-frame-legal : (x : (ℕ × ℕ) × (ℕ × ℕ)) (p : LegalFrame gooseObservable x) → LegalOne (gooseInspection x p)
+pub goose-frame-legal : (x : (ℕ × ℕ) × (ℕ × ℕ)) (p : LegalFrame gooseObservable x) → LegalOne (gooseInspection x p)
 unfolding gooseFrameOf gooseInspection LegalOne
 goose-frame-legal x p = record {
-  source = p .0 .0 .array;
-  control-block-octets = p .0 .1 .stated .array;
-  control-block-length = p .0 .1 .stated .byte;
+  source = address-octets (x .0 .0);
+  control-block-octets = array-padded (p .0 .1 .name) (length (p .0 .1 .name)) (p .0 .1 .named .octets);
+  control-block-length = omega (arith, p .0 .1 .named .short);
   state-number = p .1 .0;
   sequence-number = p .1 .1;
   time = omega arith;
@@ -188,15 +192,15 @@ goose-frame-legal x p = record {
 }
 
 module _ (s : Settings) where
-  goose-reaches : (x : (ℕ × ℕ) × (ℕ × ℕ)) (p : LegalFrame gooseObservable x) → gooseReaches s (gooseInspection x p) ≡ x ∷ []
+  pub goose-reaches : (x : (ℕ × ℕ) × (ℕ × ℕ)) (p : LegalFrame gooseObservable x) → gooseReaches s (gooseInspection x p) ≡ x ∷ []
   unfolding gooseFrameOf gooseInspection
-  goose-reaches x p = rw (and-false (s .«block_test_frames»), p .0 .0 .sends, p .0 .1 .stated .states, p .0 .1 .hashes)
+  goose-reaches x p = rw (and-false (s .«block_test_frames»), address-back (x .0 .0) (p .0 .0), name-padded (p .0 .1 .name) (p .0 .1 .named .short), p .0 .1 .hashes)
 
-  goose-answer : (l : RememberedLists) (x : (ℕ × ℕ) × (ℕ × ℕ)) (p : LegalFrame gooseObservable x) → listAnswer s l (gooseInspection x p) ≡ answer pairs≟ gooseAnswer (l .gooseStreams) x
+  pub goose-answer : (l : RememberedLists) (x : (ℕ × ℕ) × (ℕ × ℕ)) (p : LegalFrame gooseObservable x) → listAnswer s l (gooseInspection x p) ≡ answer pairs≟ gooseAnswer (l .gooseStreams) x
   unfolding gooseFrameOf gooseInspection hasClock
-  goose-answer l x p = rw (and-false (s .«block_test_frames»), p .0 .0 .sends, p .0 .1 .stated .states, p .0 .1 .hashes)
+  goose-answer l x p = rw (and-false (s .«block_test_frames»), address-back (x .0 .0) (p .0 .0), name-padded (p .0 .1 .name) (p .0 .1 .named .short), p .0 .1 .hashes)
 
-  goose-further : (l l′ : RememberedLists) → ListsDistinguished gooseObservable 16 (l .gooseStreams) (l′ .gooseStreams) → Further s l l′
+  pub goose-further : (l l′ : RememberedLists) → ListsDistinguished gooseObservable 16 (l .gooseStreams) (l′ .gooseStreams) → Further s l l′
   goose-further l l′ d =
       further-of s l l′ gooseInspection goose-frame-legal (d .fillers) (d .legal) (d .last) (d .legal-last) (d .short)
       (λ q. d .differ (sym (at l) ∙ q ∙ at l′))
@@ -214,26 +218,26 @@ module _ (s : Settings) where
 
 -- ---- clocks: an SV frame of the empty name, whose stream is the same on both sides
 
-one-more : (rest : List Finding) → answerFrom true [] (clockFindings true ++ rest) ≢ answerFrom true [] rest
+pub one-more : (rest : List Finding) → answerFrom true [] (clockFindings true ++ rest) ≢ answerFrom true [] rest
 one-more rest e =
     let n : suc (length rest) ≡ length rest =
     sym (length-codes false (31 ∷ []) rest ∙ omega arith) ∙ ap (λ (a : Answer). length (a .1)) e ∙ length-codes true [] rest ∙ omega arith in
     omega arith
 
 -- an answer tells whether there was a clock alert, whatever else was found
-clock-told : (b b′ : Bool) (rest : List Finding) → answerFrom true [] (clockFindings b ++ rest) ≡ answerFrom true [] (clockFindings b′ ++ rest) → b ≡ b′
+pub clock-told : (b b′ : Bool) (rest : List Finding) → answerFrom true [] (clockFindings b ++ rest) ≡ answerFrom true [] (clockFindings b′ ++ rest) → b ≡ b′
 clock-told true true rest e = refl
 clock-told false false rest e = refl
 clock-told true false rest e = absurd (one-more rest e)
 clock-told false true rest e = absurd (one-more rest (sym e))
 
-module _ (s : Settings) (least : 1 ≤ s .«time_max_forward_jump_s») (most : s .«time_max_forward_jump_s» ≤ 4294967294) where
-  abbrev limit : ℕ
+module _ (s : Settings) (range : JumpLimit (s .«time_max_forward_jump_s»)) where
+  abbrev pub limit : ℕ
   limit = s .«time_max_forward_jump_s»
 
-  clockFrameOf : (x : ℕ × (ℕ × ℕ)) → LegalFrame (clockObservable limit least most) x → SvFrame
+  pub clockFrameOf : (x : ℕ × (ℕ × ℕ)) → LegalFrame (clockObservable limit range) x → SvFrame
   clockFrameOf x p = record {
-    «src_mac» = p .0 .mac;
+    «src_mac» = addressOctets (x .0);
     «svid_len» = 0;
     svid = replicate 64 0;
     «smp_cnt» = 0;
@@ -245,38 +249,38 @@ module _ (s : Settings) (least : 1 ≤ s .«time_max_forward_jump_s») (most : s
     «t_fraction_of_second» = x .1 .1;
   }
 
-  clockInspection : (x : ℕ × (ℕ × ℕ)) → LegalFrame (clockObservable limit least most) x → Inspection
+  pub clockInspection : (x : ℕ × (ℕ × ℕ)) → LegalFrame (clockObservable limit range) x → Inspection
   clockInspection x p = sv (clockFrameOf x p)
 
-  clock-frame-legal : (x : ℕ × (ℕ × ℕ)) (p : LegalFrame (clockObservable limit least most) x) → LegalOne (clockInspection x p)
+  pub clock-frame-legal : (x : ℕ × (ℕ × ℕ)) (p : LegalFrame (clockObservable limit range) x) → LegalOne (clockInspection x p)
   unfolding clockFrameOf clockInspection LegalOne
   clock-frame-legal x p = record {
-    source = p .0 .array;
+    source = address-octets (x .0);
     svid-length = omega arith;
-    svid-octets = zeros 64;
+    svid-octets = array-zeros 64;
     count = omega arith;
     rate = omega arith;
     dataset-length = omega arith;
-    dataset-octets = zeros 64;
+    dataset-octets = array-zeros 64;
     time = omega arith;
     seconds = p .1 .0;
     fraction = p .1 .1;
   }
 
-  clock-reaches : (x : ℕ × (ℕ × ℕ)) (p : LegalFrame (clockObservable limit least most) x) → clockReaches s (clockInspection x p) ≡ x ∷ []
+  pub clock-reaches : (x : ℕ × (ℕ × ℕ)) (p : LegalFrame (clockObservable limit range) x) → clockReaches s (clockInspection x p) ≡ x ∷ []
   unfolding clockFrameOf clockInspection
-  clock-reaches x p = rw (p .1 .2, p .0 .sends)
+  clock-reaches x p = rw (p .1 .2, address-back (x .0) (p .0))
 
   -- what is found of the stream of the empty name
-  abbrev unnamed : List (List ℕ × ℕ) → List Finding
+  abbrev pub unnamed : List (List ℕ × ℕ) → List Finding
   unnamed l = countFindings (s .«sv_max_smp_cnt_gap») [] (svOutcome (lookup names≟ [] l) 0)
 
-  clock-answer : (l : RememberedLists) (x : ℕ × (ℕ × ℕ)) (p : LegalFrame (clockObservable limit least most) x)
+  pub clock-answer : (l : RememberedLists) (x : ℕ × (ℕ × ℕ)) (p : LegalFrame (clockObservable limit range) x)
       → listAnswer s l (clockInspection x p) ≡ answerFrom true [] (clockFindings (answer ℕ-discrete (clockAlert limit) (l .clocks) x) ++ unnamed (l .svStreams))
   unfolding clockFrameOf clockInspection
-  clock-answer l x p = rw (p .1 .2, p .0 .sends)
+  clock-answer l x p = rw (p .1 .2, address-back (x .0) (p .0))
 
-  clock-further : (l l′ : RememberedLists) → l .svStreams ≡ l′ .svStreams → ListsDistinguished (clockObservable limit least most) 16 (l .clocks) (l′ .clocks) → Further s l l′
+  pub clock-further : (l l′ : RememberedLists) → l .svStreams ≡ l′ .svStreams → ListsDistinguished (clockObservable limit range) 16 (l .clocks) (l′ .clocks) → Further s l l′
   clock-further l l′ e d =
       further-of s l l′ clockInspection clock-frame-legal (d .fillers) (d .legal) (d .last) (d .legal-last) (d .short)
       (λ q. d .differ (clock-told _ _ (unnamed (streams l′)) (ap (λ (m : List (List ℕ × ℕ)). answerFrom true [] (clockFindings (alert l) ++ unnamed m)) (sym same) ∙ sym (at l) ∙ q ∙ at l′)))
@@ -303,19 +307,23 @@ module _ (s : Settings) (least : 1 ≤ s .«time_max_forward_jump_s») (most : s
 
 -- ---- what legal histories leave
 
+-- the name that a frame states
+pub stated-name : (octets : List ℕ) (len : ℕ) → OctetArray 64 octets → Name (nameOf octets len)
+stated-name octets len a = record { short = simp length-take (omega arith); octets = octets-take octets (a .octets) (validLen len) }
+
 module _ (s : Settings) where
-  sv-keys : (h : List Inspection) → Legal h → All (LegalFrame (svObservable (s .«sv_max_smp_cnt_gap»))) (reaching (svReaches s) h)
+  unfoldable pub sv-keys : (h : List Inspection) → Legal h → All (LegalFrame (svObservable (s .«sv_max_smp_cnt_gap»))) (reaching (svReaches s) h)
   sv-keys [] g = tt
   sv-keys (goose f ∷ h) g = sv-keys h (g .1)
   sv-keys (sv f ∷ h) g = (
     (
-      record { octets = f .svid; array = g .0 .svid-octets; len = f .«svid_len»; byte = g .0 .svid-length; states = refl },
+      stated-name (f .svid) (f .«svid_len») (g .0 .svid-octets),
       g .0 .count,
     ),
     sv-keys h (g .1),
   )
 
-  goose-keys : (h : List Inspection) → Legal h → All (LegalFrame gooseObservable) (reaching (gooseReaches s) h)
+  pub goose-keys : (h : List Inspection) → Legal h → All (LegalFrame gooseObservable) (reaching (gooseReaches s) h)
   goose-keys [] g = tt
   goose-keys (sv f ∷ h) g = goose-keys h (g .1)
   goose-keys (goose f ∷ h) g = go (blocked s f) (goose-keys h (g .1))
@@ -326,10 +334,10 @@ module _ (s : Settings) where
       go false a = (
         (
           (
-            record { mac = f .«src_mac»; array = g .0 .source; sends = refl },
+            address-fits (f .«src_mac») (g .0 .source),
             record {
               name = nameOf (f .«go_cb_ref») (f .«go_cb_ref_len»);
-              stated = record { octets = f .«go_cb_ref»; array = g .0 .control-block-octets; len = f .«go_cb_ref_len»; byte = g .0 .control-block-length; states = refl };
+              named = stated-name (f .«go_cb_ref») (f .«go_cb_ref_len») (g .0 .control-block-octets);
               hashes = refl;
             },
           ),
@@ -338,18 +346,18 @@ module _ (s : Settings) where
         a,
       )
 
-module _ (s : Settings) (least : 1 ≤ s .«time_max_forward_jump_s») (most : s .«time_max_forward_jump_s» ≤ 4294967294) where
-  abbrev Clocks : List (ℕ × (ℕ × ℕ)) → Type 0
-  Clocks = All (LegalFrame (clockObservable (s .«time_max_forward_jump_s») least most))
+module _ (s : Settings) (range : JumpLimit (s .«time_max_forward_jump_s»)) where
+  abbrev pub Clocks : List (ℕ × (ℕ × ℕ)) → Type 0
+  Clocks = All (LegalFrame (clockObservable (s .«time_max_forward_jump_s») range))
 
-  if-clock : (mac : List ℕ) (pair : ℕ × ℕ) → OctetArray 6 mac → Numbers pair → (rest : List (ℕ × (ℕ × ℕ))) → Clocks rest → Clocks (ifClock (addressOf mac) pair ++ rest)
+  pub if-clock : (mac : List ℕ) (pair : ℕ × ℕ) → OctetArray 6 mac → Numbers pair → (rest : List (ℕ × (ℕ × ℕ))) → Clocks rest → Clocks (ifClock (addressOf mac) pair ++ rest)
   if-clock mac pair g n rest a = go (hasClock pair) refl
     where
       go : (b : Bool) → hasClock pair ≡ b → Clocks (cond b ((addressOf mac, pair) ∷ []) [] ++ rest)
-      go true e = ((record { mac = mac; array = g; sends = refl }, (n .0, n .1, e)), a)
+      go true e = ((address-fits mac g, (n .0, n .1, e)), a)
       go false e = a
 
-  clock-keys : (h : List Inspection) → Legal h → Clocks (reaching (clockReaches s) h)
+  pub clock-keys : (h : List Inspection) → Legal h → Clocks (reaching (clockReaches s) h)
   clock-keys [] g = tt
   clock-keys (sv f ∷ h) g = if-clock (f .«src_mac») (svPair f) (g .0 .source) (g .0 .seconds, g .0 .fraction) _ (clock-keys h (g .1))
   clock-keys (goose f ∷ h) g = go (blocked s f) (clock-keys h (g .1))
@@ -359,10 +367,10 @@ module _ (s : Settings) (least : 1 ≤ s .«time_max_forward_jump_s») (most : s
       go false a = if-clock (f .«src_mac») (goosePair f) (g .0 .source) (g .0 .seconds, g .0 .fraction) _ a
 
   -- unequal remembered lists: the first of the three that differ, SV streams, GOOSE streams, clocks
-  further-lists : (h h′ : List Inspection) → Legal h → Legal h′ → rememberedLists s h ≢ rememberedLists s h′ → Further s (rememberedLists s h) (rememberedLists s h′)
+  unfoldable pub further-lists : (h h′ : List Inspection) → Legal h → Legal h′ → rememberedLists s h ≢ rememberedLists s h′ → Further s (rememberedLists s h) (rememberedLists s h′)
   further-lists h h′ g g′ n =
-      go (List-discrete (×-discrete names≟ ℕ-discrete) (l .svStreams) (l′ .svStreams))
-      (List-discrete (×-discrete pairs≟ (×-discrete ℕ-discrete ℕ-discrete)) (l .gooseStreams) (l′ .gooseStreams))
+      go (decideList (decidePair names≟ ℕ-discrete) (l .svStreams) (l′ .svStreams))
+      (decideList (decidePair pairs≟ pairs≟) (l .gooseStreams) (l′ .gooseStreams))
     where
       l : RememberedLists
       l = rememberedLists s h
@@ -376,17 +384,17 @@ module _ (s : Settings) (least : 1 ≤ s .«time_max_forward_jump_s») (most : s
       go (yes e) (no d) =
           goose-further s l l′ (distinguish-histories gooseObservable (reaching (gooseReaches s) h) (reaching (gooseReaches s) h′) (goose-keys s h g) (goose-keys s h′ g′) d)
       go (yes e) (yes e′) =
-          clock-further s least most l l′ e
-          (distinguish-histories (clockObservable (s .«time_max_forward_jump_s») least most) (reaching (clockReaches s) h) (reaching (clockReaches s) h′) (clock-keys h g) (clock-keys h′ g′)
+          clock-further s range l l′ e
+          (distinguish-histories (clockObservable (s .«time_max_forward_jump_s») range) (reaching (clockReaches s) h) (reaching (clockReaches s) h′) (clock-keys h g) (clock-keys h′ g′)
           (λ q. n (λ i. record { svStreams = e i; gooseStreams = e′ i; clocks = q i })))
 
 -- ---- the claim
 
-lists≟ : Discrete RememberedLists
+pub lists≟ : Discrete RememberedLists
 lists≟ l l′ =
-    go (List-discrete (×-discrete names≟ ℕ-discrete) (l .svStreams) (l′ .svStreams))
-    (List-discrete (×-discrete pairs≟ (×-discrete ℕ-discrete ℕ-discrete)) (l .gooseStreams) (l′ .gooseStreams))
-    (List-discrete (×-discrete ℕ-discrete (×-discrete ℕ-discrete ℕ-discrete)) (l .clocks) (l′ .clocks))
+    go (decideList (decidePair names≟ ℕ-discrete) (l .svStreams) (l′ .svStreams))
+    (decideList (decidePair pairs≟ pairs≟) (l .gooseStreams) (l′ .gooseStreams))
+    (decideList (decidePair ℕ-discrete pairs≟) (l .clocks) (l′ .clocks))
   where
     go : Dec (l .svStreams ≡ l′ .svStreams) → Dec (l .gooseStreams ≡ l′ .gooseStreams) → Dec (l .clocks ≡ l′ .clocks) → Dec (l ≡ l′)
     go (yes a) (yes b) (yes c) = yes (λ i. record { svStreams = a i; gooseStreams = b i; clocks = c i })
@@ -395,10 +403,10 @@ lists≟ l l′ =
     go (yes a) (yes b) (no n) = no (λ e. n (ap (λ (z : RememberedLists). z .clocks) e))
 
 module _ (strict : Bool) (settings : List Setting) (p : Premises (configuredMonitor strict settings)) where
-  abbrev monitor : Iec61850Monitor
+  abbrev pub monitor : Iec61850Monitor
   monitor = configuredMonitor strict settings
 
-  plain : Plain monitor
+  pub plain : Plain monitor
   plain = record { premises = p; free = configured-untouched strict settings .reservations }
 
   -- the answers after a history are those of its remembered lists
@@ -411,9 +419,9 @@ module _ (strict : Bool) (settings : List Setting) (p : Premises (configuredMoni
       ∙ rw (r .settings, r .tables, t, ← remembered-lists (monitor .settings) h)
       (answers-lists (monitor .settings) (remembers-history (monitor .settings) remembers-new h (omega arith)) further (omega arith))
 
-  pub distinguished : (h h′ : List Inspection) → Legal h → Legal h′ → length h ≤ 4000000000 → length h′ ≤ 4000000000 → ¬ EqualLists monitor h h′ → Distinguished monitor h h′
+  unfoldable pub distinguished : (h h′ : List Inspection) → Legal h → Legal h′ → length h ≤ 4000000000 → length h′ ≤ 4000000000 → ¬ EqualLists monitor h h′ → Distinguished monitor h h′
   distinguished h h′ g g′ n n′ d =
-      let f = further-lists (monitor .settings) (p .limit-least) (p .limit-most) h h′ g g′ d in
+      let f = further-lists (monitor .settings) (p .jump-limit) h h′ g g′ d in
       record {
         further = f .further;
         legal = f .legal;
@@ -422,7 +430,7 @@ module _ (strict : Bool) (settings : List Setting) (p : Premises (configuredMoni
         unequal = λ q. f .unequal (sym (answers-remembered h (f .further) (omega (arith, f .short))) ∙ q ∙ answers-remembered h′ (f .further) (omega (arith, f .short)));
       }
 
-pub demand-3 : Demand3
+unfoldable pub demand-3 : Demand3
 demand-3 strict settings h h′ p g g′ n n′ = ((same, only (lists≟ (rememberedLists s h) (rememberedLists s h′))), distinguished strict settings p h h′ g g′ n n′)
   where
     m : Iec61850Monitor

@@ -10,4 +10,5 @@ pub mod PlainMonitor
 pub mod RememberedLaws
 pub mod Observables
 pub mod Demand3Holds
+pub mod Demand3Instances
 pub mod PointsHold

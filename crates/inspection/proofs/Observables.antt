@@ -1,7 +1,6 @@
 -- What tells remembered values apart: for each list the legal keys and inputs, and an input to which two different values answer differently.
 use Prim.Native.Nat.{ℕ, zero, suc, _+_, _*_, _≤_, _<_, _^_, _-_}
 use mathlib.Core.Bool.{Bool, true, false, _&&_, _||_, not, cond, false≢true}
-use mathlib.Core.HLevel.{×-discrete}
 use mathlib.Core.List.{List, [], _∷_, head-eq-of-cons-eq}
 use mathlib.Core.Logic.{_≢_, _⊎_, inl, inr}
 use mathlib.Core.Option.{Option, none, some}
@@ -10,69 +9,52 @@ use native.Mathlib.Decide.{ℕ-discrete, decLt}
 use native.Mathlib.Omega.{arith}
 use borrow.Author.Tests.{lt-ltb, le-ltb, le-leb, lt-leb, eq-eqb, ne-eqb}
 use lib.Dec.{eqb, ltb}
-use lib.ListN.{length, getD, replicate, length-replicate}
+use lib.ListN.{length, getD}
 use Rattle.records.specs.declared.alert.AlertSeverity.the-variants.{Medium}
 use Rattle.records.specs.declared.alert.AlertCode.the-variants.{SvRateAnomaly}
 use Rattle.records.specs.Hash.{fnv1a}
-use Rattle.records.specs.Legal.{OctetArray}
-use Rattle.records.specs.Name.{nameOf, octetAt}
+use Rattle.records.specs.Legal.{Octets}
 use Rattle.records.specs.Remembered.{after}
 use Rattle.records.proofs.Booleans.{cond-holds}
 use Rattle.records.proofs.Distinguish.{Observable}
-use Rattle.records.proofs.Lists.{getD-constant}
+use Rattle.records.proofs.OctetLaws.{octets-none}
 use Rattle.inspection.specs.declared.sv_seq.SvSeqOutcome.{SvSeqOutcome}
-use Rattle.inspection.specs.Address.{addressOf}
-use Rattle.inspection.specs.Demand3.{Answer, numbersAfter}
+use Rattle.inspection.specs.Demand3.{Answer, countAfter, numbersAfter, JumpLimit}
 use Rattle.inspection.specs.GooseSeq.{replays}
 use Rattle.inspection.specs.InspectGoose.{streamFindings}
 use Rattle.inspection.specs.InspectSv.{countFindings}
 use Rattle.inspection.specs.Report.{refusal}
-use Rattle.inspection.specs.SvSeq.{countOutcome, svOutcome, isReplay, keptCount}
+use Rattle.inspection.specs.SvSeq.{countOutcome, svOutcome, isReplay}
 use Rattle.inspection.specs.TimeField.{hasClock, earlier, clockAlert}
 use Rattle.inspection.proofs.RememberedLaws.{names≟, pairs≟, replayed}
 use Rattle.inspection.proofs.ReportLaws.{answerFrom}
 
 -- ---- keys that a legal frame has
 
--- a name that a frame states
-pub record Stated (name : List ℕ) : Type 0 where
-  pub octets : List ℕ
-  pub array : OctetArray 64 octets
-  pub len : ℕ
-  pub byte : len < 256
-  pub states : nameOf octets len ≡ name
+-- a name of at most 64 octets
+pub record Name (name : List ℕ) : Type 0 where
+  pub short : length name ≤ 64
+  pub octets : Octets name
 
--- an address that a frame has
-pub record Sent (address : ℕ) : Type 0 where
-  pub mac : List ℕ
-  pub array : OctetArray 6 mac
-  pub sends : addressOf mac ≡ address
+-- an address
+abbrev pub Address : ℕ → Type 0
+Address address = address < 2 ^ 48
 
--- a hash of a name that a frame states
-pub record Hashed (hash : ℕ) : Type 0 where
+-- the hash of a name
+pub record Hash (hash : ℕ) : Type 0 where
   pub name : List ℕ
-  pub stated : Stated name
+  pub named : Name name
   pub hashes : fnv1a name ≡ hash
 
-module _ (j : ℕ) (h : j < 256) where
-  octet-array : (n : ℕ) → OctetArray (suc n) (j ∷ replicate n 0)
-  octet-array n = record { size = ap suc (length-replicate n 0); octets = below }
-    where
-      below : (k : ℕ) → octetAt (j ∷ replicate n 0) k < 256
-      below zero = h
-      below (suc k) = rw (getD-constant {E = ℕ} n k 0) (omega arith)
+pub one-octet : (j : ℕ) → j < 256 → Name (j ∷ [])
+one-octet j h = record { short = omega arith; octets = below }
+  where
+    below : Octets (j ∷ [])
+    below zero = h
+    below (suc k) = omega arith
 
-  -- a name of one octet
-  pub stated-octet : Stated (j ∷ [])
-  stated-octet = record { octets = j ∷ replicate 63 0; array = octet-array 63; len = 1; byte = omega arith; states = refl }
-
-  -- an address of one octet, the first
-  pub sent-octet : Sent (j * 2 ^ 40)
-  unfolding addressOf
-  sent-octet = record { mac = j ∷ replicate 5 0; array = octet-array 5; sends = omega arith }
-
-pub no-name : Hashed (fnv1a [])
-no-name = record { name = []; stated = record { octets = replicate 64 0; array = octet-array 0 (omega arith) 63; len = 0; byte = omega arith; states = refl }; hashes = refl }
+pub no-name : Hash (fnv1a [])
+no-name = record { name = []; named = record { short = omega arith; octets = octets-none }; hashes = refl }
 
 -- ---- what may be known of a key
 
@@ -80,7 +62,7 @@ abbrev pub Holding : {W : Type 0} → (W → Type 0) → Option W → Type 0
 Holding P none = Unit {0}
 Holding P (some w) = P w
 
-firstCode : Answer → ℕ
+unfoldable pub firstCode : Answer → ℕ
 firstCode a = getD (a .1) 0 0
 
 -- ---- SV streams: the larger count is a replay of itself, and of no smaller one
@@ -90,11 +72,11 @@ module _ (gap : ℕ) where
   svAnswer o n = answerFrom true [] (countFindings gap [] (svOutcome o n))
 
 module _ (gap : ℕ) where
-  sv-same : (c : ℕ) → firstCode (svAnswer gap (some c) c) ≡ 26
+  pub sv-same : (c : ℕ) → firstCode (svAnswer gap (some c) c) ≡ 26
   unfolding firstCode countOutcome countFindings
   sv-same c = rw (eq-eqb c c refl)
 
-  sv-above : (c n : ℕ) → c < n → firstCode (svAnswer gap (some c) n) ≢ 26
+  pub sv-above : (c n : ℕ) → c < n → firstCode (svAnswer gap (some c) n) ≢ 26
   unfolding firstCode countOutcome countFindings
   sv-above c n h = rw (ne-eqb n c (omega arith), lt-ltb c n h) (go (ltb 0 gap && ltb gap (n - c)))
     where
@@ -102,18 +84,18 @@ module _ (gap : ℕ) where
       go true e = let z : _≡_ {A = ℕ} 27 26 = e in omega arith
       go false e = let z : _≡_ {A = ℕ} 0 26 = e in omega arith
 
-  sv-none : (c : ℕ) → firstCode (svAnswer gap none c) ≢ 26
+  pub sv-none : (c : ℕ) → firstCode (svAnswer gap none c) ≢ 26
   unfolding firstCode countFindings
   sv-none c e = let z : _≡_ {A = ℕ} 0 26 = e in omega arith
 
   -- a count that is a replay of the one value and not of the other
-  told : (o o′ : Option ℕ) (n : ℕ) → firstCode (svAnswer gap o n) ≡ 26 → firstCode (svAnswer gap o′ n) ≢ 26 → svAnswer gap o n ≢ svAnswer gap o′ n
+  pub told : (o o′ : Option ℕ) (n : ℕ) → firstCode (svAnswer gap o n) ≡ 26 → firstCode (svAnswer gap o′ n) ≢ 26 → svAnswer gap o n ≢ svAnswer gap o′ n
   told o o′ n e d q = d (ap firstCode (sym q) ∙ e)
 
   abbrev pub Count : ℕ → Type 0
   Count n = n < 2 ^ 16
 
-  pub sv-separating : (o o′ : Option ℕ) → Holding Count o → Holding Count o′ → o ≢ o′ → (n : ℕ) × Count n × (svAnswer gap o n ≢ svAnswer gap o′ n)
+  unfoldable pub sv-separating : (o o′ : Option ℕ) → Holding Count o → Holding Count o′ → o ≢ o′ → (n : ℕ) × Count n × (svAnswer gap o n ≢ svAnswer gap o′ n)
   sv-separating none none h h′ d = absurd (d refl)
   sv-separating none (some c) h h′ d = (c, h′, λ q. told (some c) none c (sv-same c) (sv-none c) (sym q))
   sv-separating (some c) none h h′ d = (c, h, told (some c) none c (sv-same c) (sv-none c))
@@ -125,13 +107,13 @@ module _ (gap : ℕ) where
           let n : c ≢ c′ = λ e. d (ap {B = Option ℕ} some e) in
           (c, h, told (some c) (some c′) c (sv-same c) (sv-above c′ c (omega arith)))
 
-pub sv-known : (gap : ℕ) (o : Option ℕ) (i : ℕ) → Holding (Count gap) o → i < 2 ^ 16 → after (λ n. n) keptCount o i < 2 ^ 16
+pub sv-known : (gap : ℕ) (o : Option ℕ) (i : ℕ) → Holding (Count gap) o → i < 2 ^ 16 → after (λ n. n) countAfter o i < 2 ^ 16
 sv-known gap none i h l = l
 sv-known gap (some c) i h l = cond-holds (λ n. n < 2 ^ 16) (isReplay (countOutcome c i)) {x = c} {y = i} h l
 
-abbrev pub svObservable : (gap : ℕ) → Observable names≟ 16 (λ n. n) keptCount (svAnswer gap)
+abbrev pub svObservable : (gap : ℕ) → Observable names≟ 16 (λ n. n) countAfter (svAnswer gap)
 svObservable gap = record {
-  Key = Stated;
+  Key = Name;
   Input = Count gap;
   Known = Holding (Count gap);
   known-none = tt;
@@ -139,7 +121,7 @@ svObservable gap = record {
   separating = sv-separating gap;
   decW = ℕ-discrete;
   key = λ j. j ∷ [];
-  key-legal = λ j h. stated-octet j (omega arith);
+  key-legal = λ j h. one-octet j (omega arith);
   key-injective = λ j k e. head-eq-of-cons-eq e;
   input = 0;
   input-legal = omega arith;
@@ -198,16 +180,16 @@ goose-known (some w) i h l = cond-holds Numbers (replays w i) {x = w} {y = i} h 
 
 abbrev pub gooseObservable : Observable pairs≟ 16 (λ n. n) numbersAfter gooseAnswer
 gooseObservable = record {
-  Key = λ k. Sent (k .0) × Hashed (k .1);
+  Key = λ k. Address (k .0) × Hash (k .1);
   Input = Numbers;
   Known = Holding Numbers;
   known-none = tt;
   known-after = goose-known;
   separating = goose-separating;
-  decW = ×-discrete ℕ-discrete ℕ-discrete;
-  key = λ j. (j * 2 ^ 40, fnv1a []);
-  key-legal = λ j h. (sent-octet j (omega arith), no-name);
-  key-injective = λ j k e. let q : j * 2 ^ 40 ≡ k * 2 ^ 40 = ap (λ (x : ℕ × ℕ). x .0) e in omega arith;
+  decW = pairs≟;
+  key = λ j. (j, fnv1a []);
+  key-legal = λ j h. (omega arith, no-name);
+  key-injective = λ j k e. ap (λ (x : ℕ × ℕ). x .0) e;
   input = (0, 0);
   input-legal = (omega arith, omega arith);
 }
@@ -246,15 +228,15 @@ pub clock-known : (o : Option (ℕ × ℕ)) (i : ℕ × ℕ) → Holding Pair o 
 clock-known none i h l = l
 clock-known (some w) i h l = l
 
-module _ (limit : ℕ) (least : 1 ≤ limit) (most : limit ≤ 4294967294) where
+module _ (limit : ℕ) (range : JumpLimit limit) where
   -- a pair at which a kept one alerts
   alerting : (q : ℕ × ℕ) → Pair q → (p : ℕ × ℕ) × Pair p × (clockAlert limit (some q) p ≡ true)
   alerting q h = go (decLt 0 (q .0)) (decLt 1 (q .1))
     where
       go : Dec (0 < q .0) → Dec (1 < q .1) → (p : ℕ × ℕ) × Pair p × (clockAlert limit (some q) p ≡ true)
-      go (yes a) b = ((0, 1), (omega arith, omega arith, has-fraction), clock-earlier limit least q (0, 1) (inl a))
-      go (no a) (yes b) = ((0, 1), (omega arith, omega arith, has-fraction), clock-earlier limit least q (0, 1) (inr (omega arith, b)))
-      go (no a) (no b) = ((suc limit, 0), (omega arith, omega arith, has-seconds (suc limit) 0 (omega arith)), clock-ahead limit least q (omega arith))
+      go (yes a) b = ((0, 1), (omega arith, omega arith, has-fraction), clock-earlier limit (range .0) q (0, 1) (inl a))
+      go (no a) (yes b) = ((0, 1), (omega arith, omega arith, has-fraction), clock-earlier limit (range .0) q (0, 1) (inr (omega arith, b)))
+      go (no a) (no b) = ((suc limit, 0), (omega arith, omega arith, has-seconds (suc limit) 0 (omega arith)), clock-ahead limit (range .0) q (omega arith))
 
   pub clock-separating : (o o′ : Option (ℕ × ℕ)) → Holding Pair o → Holding Pair o′ → o ≢ o′ → (p : ℕ × ℕ) × Pair p × (clockAlert limit o p ≢ clockAlert limit o′ p)
   clock-separating none none h h′ d = absurd (d refl)
@@ -264,21 +246,21 @@ module _ (limit : ℕ) (least : 1 ≤ limit) (most : limit ≤ 4294967294) where
     where
       go : (p ≡ q) ⊎ (Less p q ⊎ Less q p) → (r : ℕ × ℕ) × Pair r × (clockAlert limit (some p) r ≢ clockAlert limit (some q) r)
       go (inl e) = absurd (d (ap {B = Option (ℕ × ℕ)} some e))
-      go (inr (inl l)) = (p, h, λ e. false≢true (sym (clock-same limit least p) ∙ e ∙ clock-earlier limit least q p l))
-      go (inr (inr l)) = (q, h′, λ e. false≢true (sym (clock-same limit least q) ∙ sym e ∙ clock-earlier limit least p q l))
+      go (inr (inl l)) = (p, h, λ e. false≢true (sym (clock-same limit (range .0) p) ∙ e ∙ clock-earlier limit (range .0) q p l))
+      go (inr (inr l)) = (q, h′, λ e. false≢true (sym (clock-same limit (range .0) q) ∙ sym e ∙ clock-earlier limit (range .0) p q l))
 
   abbrev pub clockObservable : Observable ℕ-discrete 16 (λ p. p) (λ kept p. p) (clockAlert limit)
   clockObservable = record {
-    Key = Sent;
+    Key = Address;
     Input = Pair;
     Known = Holding Pair;
     known-none = tt;
     known-after = clock-known;
     separating = clock-separating;
-    decW = ×-discrete ℕ-discrete ℕ-discrete;
-    key = λ j. j * 2 ^ 40;
-    key-legal = λ j h. sent-octet j (omega arith);
-    key-injective = λ j k e. omega arith;
+    decW = pairs≟;
+    key = λ j. j;
+    key-legal = λ j h. omega arith;
+    key-injective = λ j k e. e;
     input = (0, 1);
     input-legal = (omega arith, omega arith, has-fraction);
   }

@@ -205,8 +205,7 @@ premises-kept s r p = record {
   no-goose-publisher = rw r (p .no-goose-publisher);
   no-sv-publisher = rw r (p .no-sv-publisher);
   not-enforced = rw s (p .not-enforced);
-  limit-least = rw s (p .limit-least);
-  limit-most = rw s (p .limit-most);
+  jump-limit = rw s (p .jump-limit);
 }
 
 abbrev pub nextAll : Settings → Remembering → List Inspection → Remembering

@@ -27,7 +27,7 @@ use Rattle.inspection.specs.declared.sv_seq.SvSeqTable.{SvSeqTable}
 use Rattle.inspection.specs.declared.time_field.TimeTrackers.{TimeTrackers}
 use Rattle.inspection.specs.declared.time_field.TimeChecked.{TimeChecked}
 use Rattle.inspection.specs.Address.{addressOf}
-use Rattle.inspection.specs.Demand3.{Inspection, goose, sv, Answer, blocked, svReaches, gooseReaches, ifClock, clockReaches, reaching, numbersAfter, RememberedLists, rememberedLists}
+use Rattle.inspection.specs.Demand3.{Inspection, goose, sv, Answer, blocked, svReaches, gooseReaches, ifClock, clockReaches, reaching, countAfter, numbersAfter, RememberedLists, rememberedLists}
 use Rattle.inspection.specs.GooseSeq.{gooseKey, gooseNumbers, gooseTimed, gooseStreams, replays, keptNumbers, gooseReplay, gooseChecked, noGooseStreams}
 use Rattle.inspection.specs.InspectGoose.{goosePair, clockFindings, streamFindings}
 use Rattle.inspection.specs.InspectSv.{svPair, countFindings}
@@ -47,7 +47,7 @@ abbrev pub pairs≟ : Discrete (ℕ × ℕ)
 pairs≟ = decidePair ℕ-discrete ℕ-discrete
 
 abbrev pub touchSv : List (List ℕ × ℕ) → List ℕ × ℕ → List (List ℕ × ℕ)
-touchSv = touch names≟ 16 (λ n. n) keptCount
+touchSv = touch names≟ 16 (λ n. n) countAfter
 
 abbrev pub touchGoose : List ((ℕ × ℕ) × (ℕ × ℕ)) → (ℕ × ℕ) × (ℕ × ℕ) → List ((ℕ × ℕ) × (ℕ × ℕ))
 touchGoose = touch pairs≟ 16 (λ n. n) numbersAfter
@@ -112,7 +112,7 @@ moved s l (x ∷ h) =
 pub remembered-lists : (s : Settings) (h : List Inspection) → foldl (move s) noLists h ≡ rememberedLists s h
 remembered-lists s h =
     moved s noLists h ∙ (λ i. record {
-      svStreams = by-last-use names≟ 16 (λ n. n) keptCount (reaching (svReaches s) h) i;
+      svStreams = by-last-use names≟ 16 (λ n. n) countAfter (reaching (svReaches s) h) i;
       gooseStreams = by-last-use pairs≟ 16 (λ n. n) numbersAfter (reaching (gooseReaches s) h) i;
       clocks = by-last-use ℕ-discrete 16 (λ p. p) (λ kept p. p) (reaching (clockReaches s) h) i;
     })

@@ -1,24 +1,28 @@
 -- The four tables that give up their oldest entry, as tables of slots and ticks (records, AgeingTable): one instance each.
-use Prim.Native.Nat.{ℕ, _≤_, _<_}
+use Prim.Native.Nat.{ℕ, _≤_, _<_, _^_}
 use mathlib.Core.Bool.{Bool, true, _&&_}
-use mathlib.Core.List.{List}
+use mathlib.Core.List.{List, [], _∷_, foldl, reverse}
 use mathlib.Core.Logic.{_≢_, _↔_}
 use mathlib.Core.Path.{_≡_, refl, sym, ap, _∙_}
+use native.Mathlib.Decide.{ℕ-discrete}
 use native.Mathlib.Omega.{arith}
 use borrow.Author.Tests.{eq-eqb, eqb-true}
 use lib.Dec.{eqb}
 use lib.ListN.{length, getD, set, length-set}
 use lib.Seq.{getD-set-same, getD-set-other}
+use Rattle.records.specs.declared.ageing.EqualAges.the-variants.{Last}
 use Rattle.records.specs.declared.bucket.RateBucket.{RateBucket}
-use Rattle.records.proofs.AgeingTable.{Table}
+use Rattle.records.specs.Remembered.{remembered}
+use Rattle.records.proofs.AgeingTable.{Table, Represents, represents-remembered}
 use Rattle.records.proofs.Booleans.{and-both}
+use Rattle.records.proofs.KeyedLists.{All}
 use Rattle.records.proofs.NameKeys.{nameAt, Kept, name-matched, name-here, name-elsewhere, kept-stored}
 use Rattle.inspection.specs.declared.goose_seq.GooseSeqTable.{GooseSeqTable}
 use Rattle.inspection.specs.declared.rate.RateBuckets.{RateBuckets}
 use Rattle.inspection.specs.declared.sv_seq.SvSeqTable.{SvSeqTable}
 use Rattle.inspection.specs.declared.time_field.TimeTrackers.{TimeTrackers}
 use Rattle.inspection.specs.GooseSeq.{gooseStreams}
-use Rattle.inspection.specs.Rate.{bucketAt, buckets}
+use Rattle.inspection.specs.Rate.{buckets, newBucket, nextBucket, rateChecked, noBuckets}
 use Rattle.inspection.specs.SvSeq.{svStreams}
 use Rattle.inspection.specs.TimeField.{clocks}
 
@@ -156,3 +160,20 @@ bucketTable = record {
     );
   };
 }
+
+-- ---- buckets: what rate checks leave, as of a history (the streams and clocks stand in RememberedLaws)
+
+abbrev rated : RateBuckets → ℕ × (ℕ × ℕ) → RateBuckets
+rated t call = rateChecked t (call .0) (call .1 .0) (call .1 .1) .table
+
+any-key : (calls : List (ℕ × (ℕ × ℕ))) → All (λ x. Unit {0}) calls
+any-key [] = tt
+any-key (x ∷ calls) = (tt, any-key calls)
+
+-- fewer than 2^32 rate checks on new buckets leave the latest 16 invoke ids by last request, each with its bucket
+pub buckets-remembered : (calls : List (ℕ × (ℕ × ℕ))) → length calls < 2 ^ 32
+    → Represents bucketTable (foldl rated noBuckets calls) (remembered ℕ-discrete 16 newBucket nextBucket (reverse calls))
+unfolding rateChecked
+buckets-remembered calls h =
+    represents-remembered bucketTable ℕ-discrete Last newBucket nextBucket noBuckets (record { size = refl }, record { size = refl }, record { size = refl }, record { size = refl }) refl calls
+    (any-key calls) h

@@ -22,7 +22,7 @@ use Rattle.inspection.specs.Calls.{Setting, configuredMonitor}
 use Rattle.inspection.specs.GooseSeq.{gooseKey, gooseNumbers, replays}
 use Rattle.inspection.specs.InspectGoose.{inspectGoose, goosePair}
 use Rattle.inspection.specs.InspectSv.{inspectSv, svPair}
-use Rattle.inspection.specs.SvSeq.{svKey, keptCount}
+use Rattle.inspection.specs.SvSeq.{svKey, countOutcome, isReplay}
 use Rattle.inspection.specs.TimeField.{hasClock}
 
 -- ---- histories and answers
@@ -84,7 +84,10 @@ abbrev pub reaching : {X : Type 0} → (Inspection → List X) → List Inspecti
 reaching reaches [] = []
 reaching reaches (x ∷ h) = reaches x ++ reaching reaches h
 
--- a frame that is a replay leaves the stream's numbers, any other replaces them
+-- a frame that is a replay leaves the stream's count or numbers, any other replaces them
+abbrev pub countAfter : ℕ → ℕ → ℕ
+countAfter last new = cond (isReplay (countOutcome last new)) last new
+
 abbrev pub numbersAfter : ℕ × ℕ → ℕ × ℕ → ℕ × ℕ
 numbersAfter last new = cond (replays last new) last new
 
@@ -97,20 +100,23 @@ pub record RememberedLists : Type 0 where
 abbrev pub rememberedLists : Settings → List Inspection → RememberedLists
 rememberedLists s h =
     record {
-      svStreams = remembered (decideList ℕ-discrete) 16 (λ n. n) keptCount (reverse (reaching (svReaches s) h));
+      svStreams = remembered (decideList ℕ-discrete) 16 (λ n. n) countAfter (reverse (reaching (svReaches s) h));
       gooseStreams = remembered (decidePair ℕ-discrete ℕ-discrete) 16 (λ n. n) numbersAfter (reverse (reaching (gooseReaches s) h));
       clocks = remembered ℕ-discrete 16 (λ p. p) (λ kept p. p) (reverse (reaching (clockReaches s) h));
     }
 
 -- ---- the claim
 
--- no publisher registered; retransmission enforcement off; forward-jump limit 1 to 4,294,967,294
+-- a forward-jump limit of 1 to 4,294,967,294
+abbrev pub JumpLimit : ℕ → Type 0
+JumpLimit limit = (1 ≤ limit) × (limit ≤ 4294967294)
+
+-- no publisher registered; retransmission enforcement off; forward-jump limit in range
 pub record Premises (m : Iec61850Monitor) : Type 0 where
   pub no-goose-publisher : m .rules .goose .count ≡ 0
   pub no-sv-publisher : m .rules .sv .count ≡ 0
   pub not-enforced : m .settings .«retx_enforce» ≡ false
-  pub limit-least : 1 ≤ m .settings .«time_max_forward_jump_s»
-  pub limit-most : m .settings .«time_max_forward_jump_s» ≤ 4294967294
+  pub jump-limit : JumpLimit (m .settings .«time_max_forward_jump_s»)
 
 module _ (m : Iec61850Monitor) (h h′ : List Inspection) where
   -- the further frames of both histories are within the count

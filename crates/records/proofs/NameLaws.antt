@@ -168,6 +168,16 @@ module _ (octets : List ℕ) (len : ℕ) (size : length octets ≡ 64) where
       go k (yes l) = rw (lt-ltb k (validLen len) l) (getD-take (validLen len) octets k 0 l)
       go k (no l) = rw (le-ltb k (validLen len) (omega arith))
 
+-- and a name of at most 64 octets is what its padded octets state
+pub name-padded : (name : List ℕ) → length name ≤ 64 → nameOf (padded name (length name)) (length name) ≡ name
+name-padded name h =
+    let size = length-take-le (validLen (length name)) (padded name (length name)) (omega (arith, length-padded name (length name))) in
+    ext-getD 0 _ name (size ∙ omega arith) (λ k l.
+    let m : k < length name = omega (arith, size) in
+    getD-take (validLen (length name)) (padded name (length name)) k 0 (omega arith)
+    ∙ padded-at name (length name) k (omega arith)
+    ∙ cond-yes _ _ (lt-ltb k (length name) m))
+
 -- what a slot holds is the same when it is stored again
 overwritten-again : (l : List ℕ) (start : ℕ) (f : ℕ → ℕ) (n : ℕ) → ((k : ℕ) → k < n → octetAt l (start + k) ≡ f k) → overwritten l start f n ≡ l
 unfolding overwritten

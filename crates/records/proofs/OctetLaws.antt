@@ -5,12 +5,14 @@ use mathlib.Core.Logic.{by-cases}
 use mathlib.Core.Path.{_∙_}
 use native.Mathlib.Decide.{decLt}
 use native.Mathlib.Omega.{arith}
+use lib.Dec.{ltb}
 use lib.ListN.{length, set, take, drop, replicate, length-take, length-replicate, List·getD-eq-default}
 use lib.Seq.{getD-take, getD-drop}
+use Rattle.records.proofs.Booleans.{cond-holds}
 use Rattle.records.proofs.Lists.{getD-constant}
 use Rattle.records.proofs.NameLaws.{length-tabulate, tabulate-at, length-overwritten}
 use Rattle.records.specs.Legal.{Octets, OctetArray}
-use Rattle.records.specs.Name.{tabulate, octetAt, overwritten}
+use Rattle.records.specs.Name.{tabulate, octetAt, padded, overwritten}
 
 pub octets-none : Octets []
 octets-none k = omega arith
@@ -52,3 +54,8 @@ module _ (f : ℕ → ℕ) (b : (k : ℕ) → f k < 256) where
 
 pub array-zeros : (n : ℕ) → OctetArray n (replicate n 0)
 array-zeros n = record { size = length-replicate n 0; octets = λ k. rw (getD-constant {E = ℕ} n k 0) (omega arith) }
+
+-- a name's octets, zeros behind its end
+pub array-padded : (name : List ℕ) (len : ℕ) → Octets name → OctetArray 64 (padded name len)
+unfolding padded
+array-padded name len o = array-tabulate _ (λ k. cond-holds (λ n. n < 256) (ltb k len) {x = octetAt name k} {y = 0} (o k) (omega arith)) 64
