@@ -1,10 +1,10 @@
 // The line of text for one answer: the answer, then every field of the frame beside it. Each function takes the place in the line
 // where it goes on, and answers the place behind what it put.
-ghost use mathlib.Core.Path.{_≡_};
-ghost use Prim.Native.Nat.{_+_, _<_, _≤_, min};
+ghost use Prim.Native.Nat.{_+_, _<_, _≤_};
 ghost use lib.ListN.{length};
 ghost use Rattle.io.specs.Counts.{Counts};
 use records::frame::SvFrame;
+use wire::number::least;
 use wire::sv::Parsed;
 use wire::sv::ParsedSv;
 
@@ -13,13 +13,6 @@ pub fn wide(octet: u8) -> u64
     ensures { λ r. ⌜ r < 256 ⌝ }
 {
     octet as u64
-}
-
-// The smaller of two numbers.
-fn least(a: usize, b: usize) -> usize
-    ensures { λ r. ⌜ r ≡ min a b ⌝ }
-{
-    if a < b { a } else { b }
 }
 
 // Puts octets into the line as they are, as many as there is room for.
