@@ -23,11 +23,11 @@ use Rattle.inspection.specs.declared.monitor.Iec61850Monitor.{Iec61850Mo
 use Rattle.inspection.specs.declared.settings.Settings.{Settings}
 use Rattle.inspection.specs.Address.{addressOf}
 use Rattle.inspection.specs.Calls.{Setting, configuredMonitor}
-use Rattle.inspection.specs.Demand3.{Inspection, goose, sv, Legal, inspect, afterHistory, answers, Answer, blocked, svReaches, gooseReaches, ifClock, clockReaches, reaching, RememberedLists, rememberedLists, JumpLimit, Premises, Distinguished, SameAnswers, EqualLists, Demand3}
+use Rattle.inspection.specs.Demand3.{Inspection, goose, sv, Legal, inspect, afterHistory, answers, Answer, svReaches, gooseReaches, ifClock, clockReaches, reaching, RememberedLists, rememberedLists, JumpLimit, Premises, Distinguished, SameAnswers, EqualLists, Demand3}
 use Rattle.inspection.specs.GooseSeq.{gooseKey, gooseNumbers}
-use Rattle.inspection.specs.InspectGoose.{clockFindings, goosePair}
+use Rattle.inspection.specs.InspectGoose.{blocked, goosePair}
 use Rattle.inspection.specs.InspectSv.{countFindings, svPair}
-use Rattle.inspection.specs.Report.{Finding}
+use Rattle.inspection.specs.Report.{Finding, clockFindings}
 use Rattle.inspection.specs.SvSeq.{svKey, svOutcome}
 use Rattle.inspection.specs.TimeField.{hasClock, clockAlert}
 use Rattle.inspection.proofs.AddressLaws.{addressOctets, address-octets, address-back, address-fits}
@@ -136,7 +136,7 @@ module _ (s : Settings) where
   abbrev pub gapOf : ℕ
   gapOf = s .«sv_max_smp_cnt_gap»
 
-  pub sv-reaches : (x : List ℕ × ℕ) (p : LegalFrame (svObservable gapOf) x) → svReaches s (svInspection gapOf x p) ≡ x ∷ []
+  pub sv-reaches : (x : List ℕ × ℕ) (p : LegalFrame (svObservable gapOf) x) → svReaches (svInspection gapOf x p) ≡ x ∷ []
   unfolding svFrameOf svInspection
   sv-reaches x p = rw (name-padded (x .0) (p .0 .short))
 
@@ -158,7 +158,7 @@ module _ (s : Settings) where
           sv-answer (foldl (move s) z fillers) (d .last) (d .legal-last)
           ∙ ap (λ (m : List (List ℕ × ℕ)). answer names≟ (svAnswer gapOf) m (d .last))
           (ap (λ (m : RememberedLists). m .svStreams) (moved s z fillers)
-          ∙ ap (λ (xs : List (List ℕ × ℕ)). foldl touchSv (z .svStreams) xs) (reaching-made (svInspection gapOf) (svReaches s) sv-reaches (d .fillers) (d .legal)))
+          ∙ ap (λ (xs : List (List ℕ × ℕ)). foldl touchSv (z .svStreams) xs) (reaching-made (svInspection gapOf) svReaches sv-reaches (d .fillers) (d .legal)))
 
 -- ---- GOOSE streams: a frame without a clock, not a test
 
@@ -289,10 +289,10 @@ module _ (s : Settings) (range : JumpLimit (s .«time_max_forward_jump_s»)) whe
       fillers = made clockInspection (d .fillers) (d .legal)
 
       streams : RememberedLists → List (List ℕ × ℕ)
-      streams z = foldl touchSv (z .svStreams) (reaching (svReaches s) fillers)
+      streams z = foldl touchSv (z .svStreams) (reaching svReaches fillers)
 
       same : streams l ≡ streams l′
-      same = ap (λ (m : List (List ℕ × ℕ)). foldl touchSv m (reaching (svReaches s) fillers)) e
+      same = ap (λ (m : List (List ℕ × ℕ)). foldl touchSv m (reaching svReaches fillers)) e
 
       alert : RememberedLists → Bool
       alert z = answer ℕ-discrete (clockAlert limit) (foldl touchClock (z .clocks) (d .fillers)) (d .last)
@@ -312,7 +312,7 @@ pub stated-name : (octets : List ℕ) (len : ℕ) → OctetArray 64 octets → N
 stated-name octets len a = record { short = simp length-take (omega arith); octets = octets-take octets (a .octets) (validLen len) }
 
 module _ (s : Settings) where
-  unfoldable pub sv-keys : (h : List Inspection) → Legal h → All (LegalFrame (svObservable (s .«sv_max_smp_cnt_gap»))) (reaching (svReaches s) h)
+  unfoldable pub sv-keys : (h : List Inspection) → Legal h → All (LegalFrame (svObservable (s .«sv_max_smp_cnt_gap»))) (reaching svReaches h)
   sv-keys [] g = tt
   sv-keys (goose f ∷ h) g = sv-keys h (g .1)
   sv-keys (sv f ∷ h) g = (
@@ -380,7 +380,7 @@ module _ (s : Settings) (range : JumpLimit (s .«time_max_forward_jump_s»)) whe
 
       go : Dec (l .svStreams ≡ l′ .svStreams) → Dec (l .gooseStreams ≡ l′ .gooseStreams) → Further s l l′
       go (no d) b =
-          sv-further s l l′ (distinguish-histories (svObservable (s .«sv_max_smp_cnt_gap»)) (reaching (svReaches s) h) (reaching (svReaches s) h′) (sv-keys s h g) (sv-keys s h′ g′) d)
+          sv-further s l l′ (distinguish-histories (svObservable (s .«sv_max_smp_cnt_gap»)) (reaching svReaches h) (reaching svReaches h′) (sv-keys s h g) (sv-keys s h′ g′) d)
       go (yes e) (no d) =
           goose-further s l l′ (distinguish-histories gooseObservable (reaching (gooseReaches s) h) (reaching (gooseReaches s) h′) (goose-keys s h g) (goose-keys s h′ g′) d)
       go (yes e) (yes e′) =

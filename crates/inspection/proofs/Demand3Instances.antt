@@ -11,7 +11,7 @@ use Rattle.records.specs.Decide.{decidePair, decideList}
 use Rattle.records.specs.Legal.{LegalSv, OctetArray}
 use Rattle.records.specs.Name.{octetAt, padded, tabulate}
 use Rattle.inspection.specs.declared.settings.Settings.{Settings}
-use Rattle.inspection.specs.Calls.{Setting, blockTestFrames, svMaxSmpCntGap, timeMaxForwardJump, mmsRule, configuredMonitor}
+use Rattle.inspection.specs.Calls.{Setting, blockTest, maxSmpCntGap, maxForwardJump, newMmsRule, configuredMonitor}
 use Rattle.inspection.specs.Demand3.{Inspection, sv, Legal, rememberedLists, RememberedLists, Premises, Distinguished}
 use Rattle.inspection.specs.Monitor.{setBlockTestFrames, setSvMaxSmpCntGap, setTimeMaxForwardJump, addMmsRule}
 use Rattle.inspection.specs.Rules.{addAnswer}
@@ -43,7 +43,7 @@ frame svid octet count seconds = record {
 
 -- a strict monitor with a rule and limits
 settings : List Setting
-settings = mmsRule 0xFFFF true 5 ∷ blockTestFrames true ∷ svMaxSmpCntGap 10 ∷ timeMaxForwardJump 3600 ∷ []
+settings = newMmsRule 0xFFFF true 5 ∷ blockTest true ∷ maxSmpCntGap 10 ∷ maxForwardJump 3600 ∷ []
 
 premises : Premises (configuredMonitor true settings)
 unfolding settings setBlockTestFrames setSvMaxSmpCntGap setTimeMaxForwardJump addMmsRule addAnswer withBlockTest withMaxGap withMaxJump

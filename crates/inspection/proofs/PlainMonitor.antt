@@ -20,19 +20,19 @@ use Rattle.inspection.specs.declared.monitor.Iec61850Monitor.{Iec61850Mo
 use Rattle.inspection.specs.declared.reservation.CbChecked.{CbChecked}
 use Rattle.inspection.specs.declared.settings.Settings.{Settings}
 use Rattle.inspection.specs.declared.sv_publisher.SvPublishers.{SvPublishers}
-use Rattle.inspection.specs.declared.sv_publisher.SvPublisher.the-variants.{NotRegistered}
+use Rattle.inspection.specs.declared.sv_publisher.PublisherMatch.the-variants.{NotRegistered}
 use Rattle.inspection.specs.declared.sv_seq.SvSeqOutcome.{SvSeqOutcome}
 use Rattle.inspection.specs.declared.sv_seq.SvSeqOutcome.the-variants.{FirstSeen, Replay, ForwardGap, CycleWrap, SuspiciousSmpGap}
 use Rattle.inspection.specs.declared.sv_seq.SvSeqTable.{SvSeqTable}
 use Rattle.inspection.specs.declared.time_field.TimeTrackers.{TimeTrackers}
 use Rattle.inspection.specs.declared.time_field.TimeChecked.{TimeChecked}
 use Rattle.inspection.specs.Address.{addressOf}
-use Rattle.inspection.specs.Demand3.{Inspection, goose, sv, inspect, afterHistory, answers, Answer, answerOf, blocked, Premises}
+use Rattle.inspection.specs.Demand3.{Inspection, goose, sv, inspect, afterHistory, answers, Answer, answerOf, Premises}
 use Rattle.inspection.specs.GooseSeq.{gooseKey, gooseTimed, gooseStreams, gooseChecked, retxChecked, retransmission}
-use Rattle.inspection.specs.InspectGoose.{goosePair, clockFindings, streamFindings, gooseTest, gooseAllowed, gooseReservation, gooseTimeField, inspectGoose}
+use Rattle.inspection.specs.InspectGoose.{goosePair, blocked, streamFindings, gooseTest, gooseAllowed, gooseReservation, gooseTimeField, inspectGoose}
 use Rattle.inspection.specs.InspectSv.{svPair, rateFindings, countFindings, svTimeField, svReservation, svRegistered, svBinding, inspectSv}
 use Rattle.inspection.specs.Monitor.{countedGoose, countedSv}
-use Rattle.inspection.specs.Report.{Finding, Checked, refusal, ended, reported}
+use Rattle.inspection.specs.Report.{Finding, refusal, clockFindings, ended, reported}
 use Rattle.inspection.specs.Reservation.{reservesAt, reservationOf, cbChecked, noReservations}
 use Rattle.inspection.specs.SvPublisher.{svPublisher}
 use Rattle.inspection.specs.SvSeq.{svKey, svChecked}

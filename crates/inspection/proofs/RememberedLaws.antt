@@ -27,11 +27,11 @@ use Rattle.inspection.specs.declared.sv_seq.SvSeqTable.{SvSeqTable}
 use Rattle.inspection.specs.declared.time_field.TimeTrackers.{TimeTrackers}
 use Rattle.inspection.specs.declared.time_field.TimeChecked.{TimeChecked}
 use Rattle.inspection.specs.Address.{addressOf}
-use Rattle.inspection.specs.Demand3.{Inspection, goose, sv, Answer, blocked, svReaches, gooseReaches, ifClock, clockReaches, reaching, countAfter, numbersAfter, RememberedLists, rememberedLists}
+use Rattle.inspection.specs.Demand3.{Inspection, goose, sv, Answer, svReaches, gooseReaches, ifClock, clockReaches, reaching, countAfter, numbersAfter, RememberedLists, rememberedLists}
 use Rattle.inspection.specs.GooseSeq.{gooseKey, gooseNumbers, gooseTimed, gooseStreams, replays, keptNumbers, gooseReplay, gooseChecked, noGooseStreams}
-use Rattle.inspection.specs.InspectGoose.{goosePair, clockFindings, streamFindings}
+use Rattle.inspection.specs.InspectGoose.{goosePair, blocked, streamFindings}
 use Rattle.inspection.specs.InspectSv.{svPair, countFindings}
-use Rattle.inspection.specs.Report.{Finding, refusal}
+use Rattle.inspection.specs.Report.{Finding, refusal, clockFindings}
 use Rattle.inspection.specs.SvSeq.{svKey, svStreams, keptCount, svOutcome, svChecked, noSvStreams}
 use Rattle.inspection.specs.TimeField.{clocks, hasClock, clockAlert, timeChecked, noClocks}
 use Rattle.inspection.proofs.PlainMonitor.{Remembering, next, findings, nextAll, answersFrom}
@@ -65,7 +65,7 @@ replayed (some last) new = replays last new
 module _ (s : Settings) where
   abbrev pub move : RememberedLists → Inspection → RememberedLists
   move l x = record {
-    svStreams = foldl touchSv (l .svStreams) (svReaches s x);
+    svStreams = foldl touchSv (l .svStreams) (svReaches x);
     gooseStreams = foldl touchGoose (l .gooseStreams) (gooseReaches s x);
     clocks = foldl touchClock (l .clocks) (clockReaches s x);
   }
@@ -97,14 +97,14 @@ fold-append f l (x ∷ a) b = fold-append f (f l x) a b
 
 -- the lists that a history leaves are those that are read off it
 pub moved : (s : Settings) (l : RememberedLists) (h : List Inspection) → foldl (move s) l h ≡ record {
-  svStreams = foldl touchSv (l .svStreams) (reaching (svReaches s) h);
+  svStreams = foldl touchSv (l .svStreams) (reaching svReaches h);
   gooseStreams = foldl touchGoose (l .gooseStreams) (reaching (gooseReaches s) h);
   clocks = foldl touchClock (l .clocks) (reaching (clockReaches s) h);
 }
 moved s l [] = refl
 moved s l (x ∷ h) =
     moved s (move s l x) h ∙ (λ i. record {
-      svStreams = sym (fold-append touchSv (l .svStreams) (svReaches s x) (reaching (svReaches s) h)) i;
+      svStreams = sym (fold-append touchSv (l .svStreams) (svReaches x) (reaching svReaches h)) i;
       gooseStreams = sym (fold-append touchGoose (l .gooseStreams) (gooseReaches s x) (reaching (gooseReaches s) h)) i;
       clocks = sym (fold-append touchClock (l .clocks) (clockReaches s x) (reaching (clockReaches s) h)) i;
     })
@@ -112,7 +112,7 @@ moved s l (x ∷ h) =
 pub remembered-lists : (s : Settings) (h : List Inspection) → foldl (move s) noLists h ≡ rememberedLists s h
 remembered-lists s h =
     moved s noLists h ∙ (λ i. record {
-      svStreams = by-last-use names≟ 16 (λ n. n) countAfter (reaching (svReaches s) h) i;
+      svStreams = by-last-use names≟ 16 (λ n. n) countAfter (reaching svReaches h) i;
       gooseStreams = by-last-use pairs≟ 16 (λ n. n) numbersAfter (reaching (gooseReaches s) h) i;
       clocks = by-last-use ℕ-discrete 16 (λ p. p) (λ kept p. p) (reaching (clockReaches s) h) i;
     })

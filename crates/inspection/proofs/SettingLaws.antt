@@ -10,7 +10,7 @@ use Rattle.inspection.specs.declared.mms_rule.MmsRules.{MmsRules}
 use Rattle.inspection.specs.declared.goose_publisher.GoosePublishers.{GoosePublishers}
 use Rattle.inspection.specs.declared.sv_publisher.SvPublishers.{SvPublishers}
 use Rattle.inspection.specs.Address.{addressOf}
-use Rattle.inspection.specs.Calls.{Setting, mmsServiceMask, mmsReadOnly, mmsRule, goosePublisher, svPublisher, blockTestFrames, svMaxSmpCntGap, retxSchedule, timeMaxForwardJump, settingMade, configuredMonitor}
+use Rattle.inspection.specs.Calls.{Setting, serviceMask, readOnly, newMmsRule, newGoosePublisher, newSvPublisher, blockTest, maxSmpCntGap, schedule, maxForwardJump, settingMade, configuredMonitor}
 use Rattle.inspection.specs.Monitor.{newMonitor, withRules, setMmsServiceMask, setMmsReadOnly, setBlockTestFrames, setSvMaxSmpCntGap, setRetxSchedule, setTimeMaxForwardJump, addMmsRule, addGoosePublisher, addSvPublisher}
 use Rattle.inspection.specs.MmsRule.{withMmsRule}
 use Rattle.inspection.specs.GoosePublisher.{withGoosePublisher}
@@ -28,18 +28,18 @@ added-untouched m (Error e) mms goose sv = record { tables = refl; reservations 
 
 pub setting-untouched : (m : Iec61850Monitor) (s : Setting) → Untouched m (settingMade m s)
 unfolding setMmsServiceMask setMmsReadOnly setBlockTestFrames setSvMaxSmpCntGap setRetxSchedule setTimeMaxForwardJump addMmsRule addGoosePublisher addSvPublisher
-setting-untouched m (mmsServiceMask mask) = record { tables = refl; reservations = refl }
-setting-untouched m (mmsReadOnly readOnly) = record { tables = refl; reservations = refl }
-setting-untouched m (mmsRule mask readOnly rate) =
-    added-untouched m (addAnswer (m .rules .mms .count) 0) (withMmsRule (m .rules .mms) mask readOnly rate) (m .rules .goose) (m .rules .sv)
-setting-untouched m (goosePublisher mac name) =
+setting-untouched m (serviceMask mask) = record { tables = refl; reservations = refl }
+setting-untouched m (readOnly on) = record { tables = refl; reservations = refl }
+setting-untouched m (newMmsRule mask on rate) =
+    added-untouched m (addAnswer (m .rules .mms .count) 0) (withMmsRule (m .rules .mms) mask on rate) (m .rules .goose) (m .rules .sv)
+setting-untouched m (newGoosePublisher mac name) =
     added-untouched m (addAnswer (m .rules .goose .count) (length name)) (m .rules .mms) (withGoosePublisher (m .rules .goose) (addressOf mac) name) (m .rules .sv)
-setting-untouched m (svPublisher mac svid rate) =
+setting-untouched m (newSvPublisher mac svid rate) =
     added-untouched m (addAnswer (m .rules .sv .count) (length svid)) (m .rules .mms) (m .rules .goose) (withSvPublisher (m .rules .sv) (addressOf mac) svid rate)
-setting-untouched m (blockTestFrames block) = record { tables = refl; reservations = refl }
-setting-untouched m (svMaxSmpCntGap gap) = record { tables = refl; reservations = refl }
-setting-untouched m (retxSchedule schedule enforce) = record { tables = refl; reservations = refl }
-setting-untouched m (timeMaxForwardJump seconds) = record { tables = refl; reservations = refl }
+setting-untouched m (blockTest block) = record { tables = refl; reservations = refl }
+setting-untouched m (maxSmpCntGap gap) = record { tables = refl; reservations = refl }
+setting-untouched m (schedule s enforce) = record { tables = refl; reservations = refl }
+setting-untouched m (maxForwardJump seconds) = record { tables = refl; reservations = refl }
 
 settings-untouched : (m : Iec61850Monitor) (settings : List Setting) → Untouched m (foldl settingMade m settings)
 settings-untouched m [] = record { tables = refl; reservations = refl }

@@ -6,7 +6,7 @@ use native.Mathlib.Numerals.{add-one}
 use Rattle.records.specs.declared.search.Found.{Found}
 use Rattle.records.specs.declared.search.Found.the-variants.{At, Nothing}
 use Rattle.records.specs.Search.{lastBelow, isFound}
-use Rattle.inspection.specs.SvPublisher.{publisherAt}
+use Rattle.inspection.specs.SvPublisher.{matchAt}
 
 module _ (named addressed : ℕ → Bool) where
   -- what the first i rules tell
@@ -35,5 +35,5 @@ module _ (named addressed : ℕ → Bool) where
   -- what all n rules tell
   pub told-all :
       {i n : ℕ} {registered : Bool} {place : Found} → Told i registered place → i ≡ n
-      → publisherAt registered place ≡ publisherAt (isFound (lastBelow named n)) (lastBelow (λ j. named j && addressed j) n)
+      → matchAt registered place ≡ matchAt (isFound (lastBelow named n)) (lastBelow (λ j. named j && addressed j) n)
   told-all t e = rw (t .registered-is, t .place-is, e)

@@ -16,17 +16,17 @@ use Rattle.inspection.specs.Monitor.{newMonitor, resetMonitor, setMmsSer
 
 -- the nine set and add calls
 pub data Setting : Type 0 where
-  mmsServiceMask : ℕ → Setting
-  mmsReadOnly : Bool → Setting
-  mmsRule : ℕ → Bool → ℕ → Setting
-  goosePublisher : List ℕ → List ℕ → Setting
-  svPublisher : List ℕ → List ℕ → ℕ → Setting
-  blockTestFrames : Bool → Setting
-  svMaxSmpCntGap : ℕ → Setting
-  retxSchedule : RetxSchedule → Bool → Setting
-  timeMaxForwardJump : ℕ → Setting
+  serviceMask : ℕ → Setting
+  readOnly : Bool → Setting
+  newMmsRule : ℕ → Bool → ℕ → Setting
+  newGoosePublisher : List ℕ → List ℕ → Setting
+  newSvPublisher : List ℕ → List ℕ → ℕ → Setting
+  blockTest : Bool → Setting
+  maxSmpCntGap : ℕ → Setting
+  schedule : RetxSchedule → Bool → Setting
+  maxForwardJump : ℕ → Setting
 
--- every call that writes a monitor
+-- every call that may change a monitor; the totals and the mode are read off it
 pub data Call : Type 0 where
   setting : Setting → Call
   mms : MmsFrame → Call
@@ -37,15 +37,15 @@ pub data Call : Type 0 where
 
 -- the monitor after a set or add call
 abbrev pub settingMade : Iec61850Monitor → Setting → Iec61850Monitor
-settingMade m (mmsServiceMask mask) = setMmsServiceMask m mask
-settingMade m (mmsReadOnly readOnly) = setMmsReadOnly m readOnly
-settingMade m (mmsRule mask readOnly rate) = addMmsRule m mask readOnly rate .monitor
-settingMade m (goosePublisher mac name) = addGoosePublisher m mac name .monitor
-settingMade m (svPublisher mac svid rate) = addSvPublisher m mac svid rate .monitor
-settingMade m (blockTestFrames block) = setBlockTestFrames m block
-settingMade m (svMaxSmpCntGap gap) = setSvMaxSmpCntGap m gap
-settingMade m (retxSchedule schedule enforce) = setRetxSchedule m schedule enforce
-settingMade m (timeMaxForwardJump seconds) = setTimeMaxForwardJump m seconds
+settingMade m (serviceMask mask) = setMmsServiceMask m mask
+settingMade m (readOnly on) = setMmsReadOnly m on
+settingMade m (newMmsRule mask on rate) = addMmsRule m mask on rate .monitor
+settingMade m (newGoosePublisher mac name) = addGoosePublisher m mac name .monitor
+settingMade m (newSvPublisher mac svid rate) = addSvPublisher m mac svid rate .monitor
+settingMade m (blockTest block) = setBlockTestFrames m block
+settingMade m (maxSmpCntGap gap) = setSvMaxSmpCntGap m gap
+settingMade m (schedule s enforce) = setRetxSchedule m s enforce
+settingMade m (maxForwardJump seconds) = setTimeMaxForwardJump m seconds
 
 -- a new monitor, strict or not, with its settings made
 abbrev pub configuredMonitor : Bool → List Setting → Iec61850Monitor
@@ -60,18 +60,22 @@ called m (sv f) = inspectSv m f .monitor
 called m (rawSv octets time) = inspectRawSv m octets time .monitor
 called m reset = resetMonitor m
 
+-- and after a list of them
+abbrev pub afterCalls : Iec61850Monitor → List Call → Iec61850Monitor
+afterCalls m calls = foldl called m calls
+
 -- ---- calls within their types
 
 abbrev pub LegalSetting : Setting → Type 0
-LegalSetting (mmsServiceMask mask) = mask < 2 ^ 16
-LegalSetting (mmsReadOnly readOnly) = Unit {0}
-LegalSetting (mmsRule mask readOnly rate) = (mask < 2 ^ 16) × (rate < 2 ^ 16)
-LegalSetting (goosePublisher mac name) = OctetArray 6 mac × Octets name
-LegalSetting (svPublisher mac svid rate) = OctetArray 6 mac × Octets svid × (rate < 2 ^ 16)
-LegalSetting (blockTestFrames block) = Unit {0}
-LegalSetting (svMaxSmpCntGap gap) = gap < 2 ^ 16
-LegalSetting (retxSchedule schedule enforce) = (schedule .«initial_us» < 2 ^ 32) × (schedule .«t_max_us» < 2 ^ 32) × (schedule .«tolerance_pct» < 256)
-LegalSetting (timeMaxForwardJump seconds) = seconds < 2 ^ 32
+LegalSetting (serviceMask mask) = mask < 2 ^ 16
+LegalSetting (readOnly on) = Unit {0}
+LegalSetting (newMmsRule mask on rate) = (mask < 2 ^ 16) × (rate < 2 ^ 16)
+LegalSetting (newGoosePublisher mac name) = OctetArray 6 mac × Octets name
+LegalSetting (newSvPublisher mac svid rate) = OctetArray 6 mac × Octets svid × (rate < 2 ^ 16)
+LegalSetting (blockTest block) = Unit {0}
+LegalSetting (maxSmpCntGap gap) = gap < 2 ^ 16
+LegalSetting (schedule s enforce) = (s .«initial_us» < 2 ^ 32) × (s .«t_max_us» < 2 ^ 32) × (s .«tolerance_pct» < 256)
+LegalSetting (maxForwardJump seconds) = seconds < 2 ^ 32
 
 abbrev pub LegalCall : Call → Type 0
 LegalCall (setting s) = LegalSetting s
@@ -90,4 +94,4 @@ pub record Reachable (m : Iec61850Monitor) : Type 0 where
   pub strict : Bool
   pub calls : List Call
   pub legal : LegalCalls calls
-  pub made : m ≡ foldl called (newMonitor strict) calls
+  pub made : m ≡ afterCalls (newMonitor strict) calls

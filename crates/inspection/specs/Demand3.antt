@@ -1,6 +1,6 @@
--- Demand 3: what GOOSE and SV inspections leave remembered is exactly what tells in further answers (01, "Remembered tables").
+-- Demand 3 (01, "Remembered tables"): two histories leave equal remembered lists exactly when every further list of inspections gets equal answers.
 use Prim.Native.Nat.{ℕ, _+_, _≤_}
-use mathlib.Core.Bool.{Bool, false, _&&_, cond}
+use mathlib.Core.Bool.{Bool, false, cond}
 use mathlib.Core.List.{List, [], _∷_, _++_, map, foldl, reverse}
 use mathlib.Core.Logic.{_≢_, _↔_}
 use mathlib.Core.Path.{_≡_}
@@ -20,7 +20,7 @@ use Rattle.inspection.specs.declared.settings.Settings.{Settings}
 use Rattle.inspection.specs.Address.{addressOf}
 use Rattle.inspection.specs.Calls.{Setting, configuredMonitor}
 use Rattle.inspection.specs.GooseSeq.{gooseKey, gooseNumbers, replays}
-use Rattle.inspection.specs.InspectGoose.{inspectGoose, goosePair}
+use Rattle.inspection.specs.InspectGoose.{inspectGoose, goosePair, blocked}
 use Rattle.inspection.specs.InspectSv.{inspectSv, svPair}
 use Rattle.inspection.specs.SvSeq.{svKey, countOutcome, isReplay}
 use Rattle.inspection.specs.TimeField.{hasClock}
@@ -60,12 +60,9 @@ answers m (x ∷ further) = answerOf (inspect m x .result) ∷ answers (inspect 
 -- ---- the remembered lists, read off the frames and the settings
 
 -- every frame but a GOOSE test frame while blocked reaches the stream check of its kind
-abbrev pub blocked : Settings → GooseFrame → Bool
-blocked s f = s .«block_test_frames» && f .test
-
-abbrev pub svReaches : Settings → Inspection → List (List ℕ × ℕ)
-svReaches s (goose f) = []
-svReaches s (sv f) = (svKey f, f .«smp_cnt») ∷ []
+abbrev pub svReaches : Inspection → List (List ℕ × ℕ)
+svReaches (goose f) = []
+svReaches (sv f) = (svKey f, f .«smp_cnt») ∷ []
 
 abbrev pub gooseReaches : Settings → Inspection → List ((ℕ × ℕ) × (ℕ × ℕ))
 gooseReaches s (goose f) = cond (blocked s f) [] ((gooseKey f, gooseNumbers f) ∷ [])
@@ -84,7 +81,7 @@ abbrev pub reaching : {X : Type 0} → (Inspection → List X) → List Inspecti
 reaching reaches [] = []
 reaching reaches (x ∷ h) = reaches x ++ reaching reaches h
 
--- a frame that is a replay leaves the stream's count or numbers, any other replaces them
+-- a frame that is a replay leaves the stream's count or numbers, any other replaces them: said apart from the tables' steps
 abbrev pub countAfter : ℕ → ℕ → ℕ
 countAfter last new = cond (isReplay (countOutcome last new)) last new
 
@@ -100,7 +97,7 @@ pub record RememberedLists : Type 0 where
 abbrev pub rememberedLists : Settings → List Inspection → RememberedLists
 rememberedLists s h =
     record {
-      svStreams = remembered (decideList ℕ-discrete) 16 (λ n. n) countAfter (reverse (reaching (svReaches s) h));
+      svStreams = remembered (decideList ℕ-discrete) 16 (λ n. n) countAfter (reverse (reaching svReaches h));
       gooseStreams = remembered (decidePair ℕ-discrete ℕ-discrete) 16 (λ n. n) numbersAfter (reverse (reaching (gooseReaches s) h));
       clocks = remembered ℕ-discrete 16 (λ p. p) (λ kept p. p) (reverse (reaching (clockReaches s) h));
     }
@@ -119,7 +116,7 @@ pub record Premises (m : Iec61850Monitor) : Type 0 where
   pub jump-limit : JumpLimit (m .settings .«time_max_forward_jump_s»)
 
 module _ (m : Iec61850Monitor) (h h′ : List Inspection) where
-  -- the further frames of both histories are within the count
+  -- each history with what follows has at most 4,294,967,295 frames
   abbrev pub Within : List Inspection → Type 0
   Within further = (length h + length further ≤ 4294967295) × (length h′ + length further ≤ 4294967295)
 
@@ -138,7 +135,7 @@ module _ (m : Iec61850Monitor) (h h′ : List Inspection) where
   abbrev pub EqualLists : Type 0
   EqualLists = rememberedLists (m .settings) h ≡ rememberedLists (m .settings) h′
 
--- for every settings and every two legal histories of at most 4,000,000,000 frames
+-- for all settings and every two legal histories of at most 4,000,000,000 frames
 abbrev pub Demand3 : Type 0
 Demand3 =
     (strict : Bool) (settings : List Setting) (h h′ : List Inspection) → Premises (configuredMonitor strict settings)

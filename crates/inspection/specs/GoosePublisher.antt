@@ -20,15 +20,15 @@ unfoldable pub gooseFitsAt : List ℕ → List ℕ → List ℕ → ℕ → List
 gooseFitsAt addresses octets lens address name len i =
     ruleFits (getD addresses i 0) (getD lens i 0) address (sameName octets lens i name len)
 
--- whether the rule at a place fits an address and a control block's name
-abbrev pub gooseFits : GoosePublishers → ℕ → List ℕ → ℕ → Bool
-gooseFits p address name =
-    gooseFitsAt (p .«src_mac») (p .«go_cb_ref» .octets) (p .«go_cb_ref» .lens) address (padded name (length name)) (length name)
-
 -- the place of the first rule that fits
-unfoldable pub goosePublisher : GoosePublishers → ℕ → List ℕ → Found
-goosePublisher p address name = firstFrom (gooseFits p address name) 0 (ruleCount (p .count))
+abbrev pub firstFitting : List ℕ → List ℕ → List ℕ → ℕ → ℕ → List ℕ → ℕ → Found
+firstFitting addresses octets lens count address name len = firstFrom (gooseFitsAt addresses octets lens address name len) 0 (ruleCount count)
 
+unfoldable pub goosePublisher : GoosePublishers → ℕ → List ℕ → Found
+goosePublisher p address name =
+    firstFitting (p .«src_mac») (p .«go_cb_ref» .octets) (p .«go_cb_ref» .lens) (p .count) address (padded name (length name)) (length name)
+
+-- no rules
 abbrev pub noGoosePublishers : GoosePublishers
 noGoosePublishers = record { «src_mac» = replicate 16 0; «go_cb_ref» = noNames; count = 0 }
 

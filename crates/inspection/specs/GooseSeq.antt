@@ -1,6 +1,7 @@
 -- GOOSE streams (01, "Remembered tables": keyed by address and FNV-1a of the name).
 use Prim.Native.Nat.{ℕ, min, _-_, _^_}
 use mathlib.Core.Bool.{Bool, false, _&&_, _||_, not, cond}
+use mathlib.Core.List.{List}
 use mathlib.Core.Option.{Option, none, some}
 use lib.Dec.{eqb, ltb, leb}
 use lib.ListN.{getD, set, replicate}
@@ -12,15 +13,20 @@ use Rattle.records.specs.Hash.{fnv1a}
 use Rattle.records.specs.Name.{nameOf}
 use Rattle.records.specs.Remembered.{after}
 use Rattle.records.specs.Schedule.{expectedInterval, withinTolerance}
+use Rattle.records.specs.Search.{hasNumber}
 use Rattle.records.specs.Table.{Columns, valueOf, target, stepped}
 use Rattle.inspection.specs.declared.goose_seq.GooseSeqTable.{GooseSeqTable}
 use Rattle.inspection.specs.declared.goose_seq.GooseChecked.{GooseChecked}
 use Rattle.inspection.specs.declared.goose_seq.GoosePlan.{GoosePlan}
 use Rattle.inspection.specs.Address.{addressOf}
 
+-- the control block's name
+abbrev pub controlBlock : GooseFrame → List ℕ
+controlBlock f = nameOf (f .«go_cb_ref») (f .«go_cb_ref_len»)
+
 -- a stream's key: the source address and the hash of the control block's name
 abbrev pub gooseKey : GooseFrame → ℕ × ℕ
-gooseKey f = (addressOf (f .«src_mac»), fnv1a (nameOf (f .«go_cb_ref») (f .«go_cb_ref_len»)))
+gooseKey f = (addressOf (f .«src_mac»), fnv1a (controlBlock f))
 
 -- a frame's numbers, stNum and sqNum, and its numbers with its time
 abbrev pub gooseNumbers : GooseFrame → ℕ × ℕ
@@ -29,11 +35,15 @@ gooseNumbers f = (f .«st_num», f .«sq_num»)
 abbrev pub gooseTimed : GooseFrame → (ℕ × ℕ) × ℕ
 gooseTimed f = (gooseNumbers f, f .«timestamp_us»)
 
+-- whether a slot of the columns of addresses and hashes has this key
+abbrev pub hasStream : List ℕ → List ℕ → ℕ × ℕ → ℕ → Bool
+hasStream addresses hashes key i = hasNumber addresses (key .0) i && hasNumber hashes (key .1) i
+
 -- the streams as a table by key: of each its last stored frame's numbers and time
 abbrev pub gooseStreams : Columns GooseSeqTable (ℕ × ℕ) ((ℕ × ℕ) × ℕ)
 gooseStreams = record {
   ageing = λ t. t .ageing;
-  matches = λ t key i. eqb (getD (t .«src_mac») i 0) (key .0) && eqb (getD (t .«go_cb_ref_hash») i 0) (key .1);
+  matches = λ t key. hasStream (t .«src_mac») (t .«go_cb_ref_hash») key;
   value = λ t i. ((getD (t .«last_st_num») i 0, getD (t .«last_sq_num») i 0), getD (t .«last_seen_us») i 0);
   store = λ t i key v. record {
     «src_mac» = set (t .«src_mac») i (key .0);
@@ -53,6 +63,7 @@ replays last numbers = ltb (numbers .0) (last .0) || (eqb (numbers .0) (last .0)
 abbrev pub keptNumbers : (ℕ × ℕ) × ℕ → (ℕ × ℕ) × ℕ → (ℕ × ℕ) × ℕ
 keptNumbers last new = cond (replays (last .0) (new .0)) last new
 
+-- the first frame of a stream is no replay
 abbrev pub gooseReplay : Option ((ℕ × ℕ) × ℕ) → ℕ × ℕ → Bool
 gooseReplay none numbers = false
 gooseReplay (some last) numbers = replays (last .0) numbers
@@ -77,9 +88,11 @@ abbrev pub retransmission : Bool → RetxSchedule → Option ((ℕ × ℕ) × �
 retransmission enforce schedule none new = false
 retransmission enforce schedule (some last) new = enforce && outsideTolerance schedule last new
 
+-- what the look-up answers
 unfoldable pub retxChecked : Bool → RetxSchedule → GooseSeqTable → ℕ × ℕ → (ℕ × ℕ) × ℕ → Bool
 retxChecked enforce schedule t key new = retransmission enforce schedule (valueOf gooseStreams t key) new
 
+-- no streams
 abbrev pub noGooseStreams : GooseSeqTable
 noGooseStreams =
     record {

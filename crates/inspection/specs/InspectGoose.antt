@@ -4,51 +4,45 @@ use mathlib.Core.Bool.{Bool, true, _&&_, not, cond}
 use mathlib.Core.List.{List, [], _∷_, _++_}
 use lib.Dec.{ltb}
 use Rattle.records.specs.declared.alert.AlertSeverity.the-variants.{Medium, High}
-use Rattle.records.specs.declared.alert.AlertCode.the-variants.{ReplayDetected, PolicyViolation, CbHijack, RetransmissionAnomaly, TimeSyncSpoofing}
+use Rattle.records.specs.declared.alert.AlertCode.the-variants.{ReplayDetected, PolicyViolation, CbHijack, RetransmissionAnomaly}
 use Rattle.records.specs.declared.frame.GooseFrame.{GooseFrame}
 use Rattle.records.specs.Alert.{sourceGoose}
-use Rattle.records.specs.Name.{nameOf}
 use Rattle.records.specs.Search.{isFound}
 use Rattle.inspection.specs.declared.goose_seq.GooseChecked.{GooseChecked}
 use Rattle.inspection.specs.declared.monitor.Iec61850Monitor.{Iec61850Monitor}
 use Rattle.inspection.specs.declared.monitor.Inspected.{Inspected}
+use Rattle.inspection.specs.declared.settings.Settings.{Settings}
 use Rattle.inspection.specs.declared.reservation.CbChecked.{CbChecked}
 use Rattle.inspection.specs.declared.time_field.TimeChecked.{TimeChecked}
 use Rattle.inspection.specs.Address.{addressOf}
 use Rattle.inspection.specs.GoosePublisher.{goosePublisher}
-use Rattle.inspection.specs.GooseSeq.{gooseKey, gooseTimed, gooseChecked, retxChecked}
+use Rattle.inspection.specs.GooseSeq.{controlBlock, gooseKey, gooseTimed, gooseChecked, retxChecked}
 use Rattle.inspection.specs.Monitor.{countedGoose, withReservations, withClocks, withGooseStreams}
-use Rattle.inspection.specs.Report.{Finding, Checked, refusal, notice, ended, reported}
+use Rattle.inspection.specs.Report.{Finding, Checked, refusal, notice, clockFindings, ended, reported}
 use Rattle.inspection.specs.Reservation.{cbChecked}
 use Rattle.inspection.specs.TimeField.{timeChecked}
 
--- the control block's name, and the pair of t, seconds and fraction
-abbrev pub controlBlock : GooseFrame → List ℕ
-controlBlock f = nameOf (f .«go_cb_ref») (f .«go_cb_ref_len»)
-
+-- the pair of t, seconds and fraction
 abbrev pub goosePair : GooseFrame → ℕ × ℕ
 goosePair f = (f .«t_seconds_since_epoch», f .«t_fraction_of_second»)
-
--- a clock alert: High 31, checking goes on
-abbrev pub clockFindings : Bool → List Finding
-clockFindings alert = cond alert (refusal High TimeSyncSpoofing ∷ []) []
 
 -- 13. replay: High 3; otherwise a retransmission outside tolerance is Medium 30
 abbrev pub streamFindings : Bool → Bool → List Finding
 streamFindings replay outside =
     cond replay (refusal High ReplayDetected ∷ []) (cond outside (notice Medium RetransmissionAnomaly ∷ []) [])
 
--- the retransmission is looked up before anything of the stream is stored
+-- the stream's alerts come behind those before
 abbrev pub gooseStream : Iec61850Monitor → List Finding → Bool → GooseChecked → Checked
 gooseStream m before outside c = ended (withGooseStreams m (c .table)) (before ++ streamFindings (c .replay) outside)
 
--- 12. clock alert: High 31, checking goes on
+-- the retransmission is looked up before anything of the stream is stored
 abbrev pub gooseClock : Iec61850Monitor → GooseFrame → TimeChecked → Checked
 gooseClock m f c =
     gooseStream (withClocks m (c .table)) (clockFindings (c .alert))
     (retxChecked (m .settings .«retx_enforce») (m .settings .«retx_schedule») (m .tables .«goose_seq») (gooseKey f) (gooseTimed f))
     (gooseChecked (m .tables .«goose_seq») (gooseKey f) (gooseTimed f))
 
+-- 12. clock alert: High 31, checking goes on
 unfoldable pub gooseTimeField : Iec61850Monitor → GooseFrame → Checked
 gooseTimeField m f =
     gooseClock m f (timeChecked (m .tables .«time_trackers») (m .settings .«time_max_forward_jump_s») (addressOf (f .«src_mac»)) (goosePair f))
@@ -58,6 +52,7 @@ abbrev pub gooseBound : Iec61850Monitor → GooseFrame → CbChecked → Checked
 gooseBound m f c =
     cond (c .hijack) (ended (withReservations m (c .table)) (refusal High CbHijack ∷ [])) (gooseTimeField (withReservations m (c .table)) f)
 
+-- the control block's reservation
 unfoldable pub gooseReservation : Iec61850Monitor → GooseFrame → Checked
 gooseReservation m f = gooseBound m f (cbChecked (m .«cb_reservations») (controlBlock f) true (addressOf (f .«src_mac»)))
 
@@ -68,10 +63,14 @@ gooseAllowed m f =
     (ended m (refusal High PolicyViolation ∷ []))
     (gooseReservation m f)
 
+-- a test frame while blocked
+abbrev pub blocked : Settings → GooseFrame → Bool
+blocked s f = s .«block_test_frames» && f .test
+
 -- 9. test frame while blocked: Medium 6
 unfoldable pub gooseTest : Iec61850Monitor → GooseFrame → Checked
 gooseTest m f =
-    cond (m .settings .«block_test_frames» && f .test) (ended m (refusal Medium PolicyViolation ∷ [])) (gooseAllowed m f)
+    cond (blocked (m .settings) f) (ended m (refusal Medium PolicyViolation ∷ [])) (gooseAllowed m f)
 
 -- the monitor after a GOOSE frame, and the result
 unfoldable pub inspectGoose : Iec61850Monitor → GooseFrame → Inspected

@@ -1,6 +1,6 @@
 -- The inspection of an MMS frame (01, "Refusals in checking order", 4 to 8; "Remembered tables", reservation).
 use Prim.Native.Nat.{ℕ}
-use mathlib.Core.Bool.{Bool, _&&_, _||_, not, cond}
+use mathlib.Core.Bool.{_&&_, _||_, not, cond}
 use mathlib.Core.List.{List, [], _∷_}
 use lib.Dec.{eqb, ltb}
 use Rattle.records.specs.declared.alert.AlertSeverity.the-variants.{Low, Medium, High}

@@ -1,6 +1,6 @@
 -- The inspection of a sampled-values frame, decoded or raw (01, "Refusals in checking order", 3 and 14 to 20).
 use Prim.Native.Nat.{ℕ}
-use mathlib.Core.Bool.{Bool, false, _&&_, not, cond}
+use mathlib.Core.Bool.{false, _&&_, not, cond}
 use mathlib.Core.List.{List, [], _∷_, _++_}
 use lib.Dec.{eqb, ltb}
 use Rattle.records.specs.declared.alert.AlertSeverity.the-variants.{Medium, High}
@@ -11,24 +11,22 @@ use Rattle.records.specs.Name.{nameOf}
 use Rattle.records.specs.Result.{cleanResult}
 use Rattle.wire.specs.declared.sv.Parsed.{Parsed}
 use Rattle.wire.specs.declared.sv.Parsed.the-variants.{Frame, Error}
-use Rattle.wire.specs.declared.sv.ParsedSv.{ParsedSv}
 use Rattle.wire.specs.Sv.{svFrame}
 use Rattle.inspection.specs.declared.monitor.Iec61850Monitor.{Iec61850Monitor}
 use Rattle.inspection.specs.declared.monitor.Inspected.{Inspected}
 use Rattle.inspection.specs.declared.monitor.RawInspected.{RawInspected}
 use Rattle.inspection.specs.declared.reservation.CbChecked.{CbChecked}
-use Rattle.inspection.specs.declared.sv_publisher.SvPublisher.{SvPublisher}
-use Rattle.inspection.specs.declared.sv_publisher.SvPublisher.the-variants.{NotRegistered, WrongAddress, Fits}
+use Rattle.inspection.specs.declared.sv_publisher.PublisherMatch.{PublisherMatch}
+use Rattle.inspection.specs.declared.sv_publisher.PublisherMatch.the-variants.{NotRegistered, WrongAddress, Fits}
 use Rattle.inspection.specs.declared.sv_seq.SvChecked.{SvChecked}
 use Rattle.inspection.specs.declared.sv_seq.SvSeqOutcome.{SvSeqOutcome}
 use Rattle.inspection.specs.declared.sv_seq.SvSeqOutcome.the-variants.{FirstSeen, Replay, ForwardGap, CycleWrap, SuspiciousSmpGap}
 use Rattle.inspection.specs.declared.time_field.TimeChecked.{TimeChecked}
 use Rattle.inspection.specs.Address.{addressOf}
-use Rattle.inspection.specs.InspectGoose.{clockFindings}
 use Rattle.inspection.specs.Monitor.{countedSv, withReservations, withClocks, withSvStreams}
-use Rattle.inspection.specs.Report.{Finding, Checked, refusal, notice, ended, reported}
+use Rattle.inspection.specs.Report.{Finding, Checked, refusal, notice, clockFindings, ended, reported}
 use Rattle.inspection.specs.Reservation.{cbChecked}
-use Rattle.inspection.specs.SvPublisher.{svPublisher, registeredRate}
+use Rattle.inspection.specs.SvPublisher.{svPublisher, ratedAt}
 use Rattle.inspection.specs.SvSeq.{svKey, svChecked}
 use Rattle.inspection.specs.TimeField.{timeChecked}
 
@@ -50,16 +48,18 @@ countFindings limit rates (ForwardGap gap) = cond (ltb 0 limit && ltb limit gap)
 countFindings limit rates CycleWrap = rates
 countFindings limit rates (SuspiciousSmpGap gap) = notice Medium SvRateAnomaly ∷ rates
 
+-- the count's alerts come behind those before
 abbrev pub svCount : Iec61850Monitor → SvFrame → ℕ → List Finding → SvChecked → Checked
 svCount m f rate before c =
     ended (withSvStreams m (c .table))
     (before ++ countFindings (m .settings .«sv_max_smp_cnt_gap») (rateFindings (f .«smp_rate») rate) (c .outcome))
 
--- 17. clock alert: High 31, checking goes on
+-- then the count
 abbrev pub svClock : Iec61850Monitor → SvFrame → ℕ → TimeChecked → Checked
 svClock m f rate c =
     svCount (withClocks m (c .table)) f rate (clockFindings (c .alert)) (svChecked (m .tables .«sv_seq») (svKey f) (f .«smp_cnt»))
 
+-- 17. clock alert: High 31, checking goes on
 unfoldable pub svTimeField : Iec61850Monitor → SvFrame → ℕ → Checked
 svTimeField m f rate =
     svClock m f rate (timeChecked (m .tables .«time_trackers») (m .settings .«time_max_forward_jump_s») (addressOf (f .«src_mac»)) (svPair f))
@@ -69,18 +69,20 @@ abbrev pub svBound : Iec61850Monitor → SvFrame → ℕ → CbChecked → Check
 svBound m f rate c =
     cond (c .hijack) (ended (withReservations m (c .table)) (refusal High CbHijack ∷ [])) (svTimeField (withReservations m (c .table)) f rate)
 
+-- the data set's reservation
 unfoldable pub svReservation : Iec61850Monitor → SvFrame → ℕ → Checked
 svReservation m f rate =
     svBound m f rate (cbChecked (m .«cb_reservations») (nameOf (f .«dataset_ref») (f .«dataset_ref_len»)) false (addressOf (f .«src_mac»)))
 
 -- 14. svID registered, never with this address: High 28. 15. strict, publishers exist, svID not among them: Medium 6
-abbrev pub svRegistered : Iec61850Monitor → SvFrame → SvPublisher → Checked
+abbrev pub svRegistered : Iec61850Monitor → SvFrame → PublisherMatch → Checked
 svRegistered m f WrongAddress = ended m (refusal High IedMismatch ∷ [])
 svRegistered m f NotRegistered =
     cond (m .settings .«strict_mode» && ltb 0 (m .rules .sv .count)) (ended m (refusal Medium PolicyViolation ∷ []))
-    (svReservation m f (registeredRate (m .rules .sv) NotRegistered))
-svRegistered m f (Fits i) = svReservation m f (registeredRate (m .rules .sv) (Fits i))
+    (svReservation m f 0)
+svRegistered m f (Fits i) = svReservation m f (ratedAt (m .rules .sv) i)
 
+-- how the svID and the address match the publishers
 unfoldable pub svBinding : Iec61850Monitor → SvFrame → Checked
 svBinding m f = svRegistered m f (svPublisher (m .rules .sv) (addressOf (f .«src_mac»)) (svKey f))
 

@@ -1,6 +1,7 @@
 -- MMS rules (01, "Rules": the first rule whose mask is FFFF or has the raw number's bit applies).
 use Prim.Native.Nat.{ℕ, _+_, _/_, _%_, _^_}
 use mathlib.Core.Bool.{Bool, false, _&&_, _||_}
+use mathlib.Core.List.{List}
 use lib.Dec.{eqb, ltb}
 use lib.ListN.{getD, set, replicate}
 use Rattle.records.specs.declared.search.Found.{Found}
@@ -8,7 +9,7 @@ use Rattle.records.specs.Search.{firstFrom}
 use Rattle.inspection.specs.declared.mms_rule.MmsRules.{MmsRules}
 use Rattle.inspection.specs.Rules.{ruleCount}
 
--- whether a mask has the bit of a raw number, which is below 16
+-- whether a mask has the bit of a raw number; only numbers below 16 have one
 unfoldable pub hasBit : ℕ → ℕ → Bool
 hasBit mask raw = ltb raw 16 && eqb (mask / 2 ^ raw % 2) 1
 
@@ -16,9 +17,12 @@ hasBit mask raw = ltb raw 16 && eqb (mask / 2 ^ raw % 2) 1
 unfoldable pub applies : ℕ → ℕ → Bool
 applies mask raw = eqb mask 0xFFFF || hasBit mask raw
 
--- the place of the first rule that applies
+-- the place of the first rule that applies, of a column of masks
+abbrev pub firstApplying : List ℕ → ℕ → ℕ → Found
+firstApplying masks count raw = firstFrom (λ i. applies (getD masks i 0) raw) 0 (ruleCount count)
+
 unfoldable pub firstRule : MmsRules → ℕ → Found
-firstRule r raw = firstFrom (λ i. applies (getD (r .«service_mask») i 0) raw) 0 (ruleCount (r .count))
+firstRule r raw = firstApplying (r .«service_mask») (r .count) raw
 
 -- the rule at a place
 abbrev pub ruleReadOnly : MmsRules → ℕ → Bool
@@ -27,6 +31,7 @@ ruleReadOnly r i = getD (r .«read_only») i false
 abbrev pub ruleRate : MmsRules → ℕ → ℕ
 ruleRate r i = getD (r .«max_rate_per_sec») i 0
 
+-- no rules
 abbrev pub noMmsRules : MmsRules
 noMmsRules = record { «service_mask» = replicate 16 0; «read_only» = replicate 16 false; «max_rate_per_sec» = replicate 16 0; count = 0 }
 

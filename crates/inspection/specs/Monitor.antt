@@ -43,9 +43,11 @@ newTotals =
       alerts = record { «next_alert_id» = 1; «total_alerts» = 0 };
     }
 
+-- no rules
 abbrev pub noRules : Rules
 noRules = record { mms = noMmsRules; goose = noGoosePublishers; sv = noSvPublishers }
 
+-- nothing remembered
 abbrev pub newTables : Tables
 newTables = record { «rate_buckets» = noBuckets; «goose_seq» = noGooseStreams; «sv_seq» = noSvStreams; «time_trackers» = noClocks }
 
@@ -60,6 +62,24 @@ newMonitor strict = freshWith (newSettings strict)
 -- reset keeps strict mode, test blocking, MMS mask, read-only, schedule and its enforcement, jump limit and gap limit; all else is as new
 abbrev pub resetMonitor : Iec61850Monitor → Iec61850Monitor
 resetMonitor m = freshWith (m .settings)
+
+-- ---- what the readers answer: the four totals, and the mode
+
+module _ (m : Iec61850Monitor) where
+  abbrev pub mmsTotalInspected : ℕ
+  mmsTotalInspected = m .totals .«mms_total_inspected»
+
+  abbrev pub gooseTotalInspected : ℕ
+  gooseTotalInspected = m .totals .«goose_total_inspected»
+
+  abbrev pub svTotalInspected : ℕ
+  svTotalInspected = m .totals .«sv_total_inspected»
+
+  abbrev pub totalAlerts : ℕ
+  totalAlerts = m .totals .alerts .«total_alerts»
+
+  abbrev pub strictMode : Bool
+  strictMode = m .settings .«strict_mode»
 
 -- ---- a monitor with one part replaced
 
@@ -155,6 +175,7 @@ module _ (m : Iec61850Monitor) where
   abbrev configured : Added → Iec61850Monitor → Configured
   configured answer new = record { monitor = ifAdded answer new m; answer = answer }
 
+  -- an MMS rule has no name
   unfoldable pub addMmsRule : ℕ → Bool → ℕ → Configured
   addMmsRule mask readOnly rate =
       configured (addAnswer (m .rules .mms .count) 0)

@@ -2,13 +2,13 @@
 use Prim.Native.Nat.{ℕ}
 use mathlib.Core.Bool.{Bool, true}
 use mathlib.Core.Option.{Option, none, some}
-use lib.Dec.{eqb}
 use lib.ListN.{getD, set, replicate}
 use Rattle.records.specs.declared.ageing.EqualAges.the-variants.{Last}
 use Rattle.records.specs.declared.bucket.RateBucket.{RateBucket}
 use Rattle.records.specs.Ageing.{noUse, usedAt}
 use Rattle.records.specs.Bucket.{allows, consumed, firstCall}
 use Rattle.records.specs.Remembered.{after}
+use Rattle.records.specs.Search.{hasNumber}
 use Rattle.records.specs.Table.{Columns, valueOf, target, stepped}
 use Rattle.inspection.specs.declared.rate.RateBuckets.{RateBuckets}
 use Rattle.inspection.specs.declared.rate.RatePlan.{RatePlan}
@@ -22,7 +22,7 @@ bucketAt t i = record { tokens = getD (t .tokens) i 0; capacity = getD (t .capac
 abbrev pub buckets : Columns RateBuckets ℕ RateBucket
 buckets = record {
   ageing = λ t. t .ageing;
-  matches = λ t invokeId i. eqb (getD (t .key) i 0) invokeId;
+  matches = λ t invokeId. hasNumber (t .key) invokeId;
   value = bucketAt;
   store = λ t i invokeId b. record {
     key = set (t .key) i invokeId;
@@ -38,6 +38,7 @@ abbrev pub withinRate : Option RateBucket → ℕ × ℕ → Bool
 withinRate none request = true
 withinRate (some b) request = allows b (request .1)
 
+-- the bucket of a first request, and of a further one
 abbrev pub newBucket : ℕ × ℕ → RateBucket
 newBucket request = firstCall (request .0) (request .1)
 
@@ -61,6 +62,7 @@ rateChecked t invokeId rate time =
       allowed = withinRate (valueOf buckets t invokeId) (rate, time);
     }
 
+-- no buckets
 abbrev pub noBuckets : RateBuckets
 noBuckets =
     record { key = replicate 16 0; tokens = replicate 16 0; capacity = replicate 16 0; «last_refill_us» = replicate 16 0; ageing = noUse }

@@ -1,9 +1,11 @@
 -- What the checks of an inspection find, and the result and counters that report it (01, "Alert and result"; "Refusals in checking order").
 use Prim.Native.Nat.{ℕ}
-use mathlib.Core.Bool.{Bool, true, false, _&&_, not}
+use mathlib.Core.Bool.{Bool, true, false, _&&_, not, cond}
 use mathlib.Core.List.{List, [], _∷_, foldl}
 use Rattle.records.specs.declared.alert.AlertSeverity.{AlertSeverity}
+use Rattle.records.specs.declared.alert.AlertSeverity.the-variants.{High}
 use Rattle.records.specs.declared.alert.AlertCode.{AlertCode}
+use Rattle.records.specs.declared.alert.AlertCode.the-variants.{TimeSyncSpoofing}
 use Rattle.records.specs.declared.result.InspectResult.{InspectResult}
 use Rattle.records.specs.declared.result.Pushed.{Pushed}
 use Rattle.records.specs.Result.{cleanResult, pushed}
@@ -24,6 +26,10 @@ refusal severity code = record { severity = severity; code = code; refuses = tru
 -- an alert that alone does not refuse: suspicious 27, retransmission 30, Low 23
 abbrev pub notice : AlertSeverity → AlertCode → Finding
 notice severity code = record { severity = severity; code = code; refuses = false }
+
+-- a clock alert: High 31, checking goes on
+abbrev pub clockFindings : Bool → List Finding
+clockFindings alert = cond alert (refusal High TimeSyncSpoofing ∷ []) []
 
 -- an inspection after its checks: the monitor, and the alerts in their order
 pub record Checked : Type 0 where

@@ -8,7 +8,7 @@ use Rattle.records.specs.declared.search.Found.{Found}
 use Rattle.records.specs.declared.search.Found.the-variants.{At, Nothing}
 use Rattle.records.specs.Ageing.{firstFree}
 use Rattle.records.specs.Name.{padded, sameName, withName, noNames}
-use Rattle.records.specs.Search.{first}
+use Rattle.records.specs.Search.{first, hasNumber}
 use Rattle.inspection.specs.declared.reservation.CbReservations.{CbReservations}
 use Rattle.inspection.specs.declared.reservation.Reserved.{Reserved}
 use Rattle.inspection.specs.declared.reservation.CbChecked.{CbChecked}
@@ -29,9 +29,14 @@ abbrev pub reserves : CbReservations → List ℕ → Bool → ℕ → Bool
 reserves r name isGoose =
     reservesAt (r .«cb_ref» .octets) (r .«cb_ref» .lens) (r .«is_goose») (r .active) (padded name (length name)) (length name) isGoose
 
+-- and whether its client is this one
+abbrev pub ownedAt : List ℕ → List ℕ → List Bool → List ℕ → List Bool → List ℕ → ℕ → Bool → ℕ → ℕ → Bool
+ownedAt octets lens kinds owners active name len isGoose client i =
+    reservesAt octets lens kinds active name len isGoose i && hasNumber owners client i
+
 -- whether a slot's client is this one
 abbrev pub ownedBy : CbReservations → ℕ → ℕ → Bool
-ownedBy r client i = eqb (getD (r .«owner_client_id») i 0) client
+ownedBy r client = hasNumber (r .«owner_client_id») client
 
 -- the slot of the reservation of a name and kind
 unfoldable pub reservationOf : CbReservations → List ℕ → Bool → Found
@@ -54,6 +59,7 @@ abbrev pub placeOr : Found → Found → Found
 placeOr (At i) free = At i
 placeOr Nothing free = free
 
+-- the reservations with that slot taken, if there is one
 abbrev pub reservedAt : CbReservations → List ℕ → Bool → ℕ → Found → Reserved
 reservedAt r name isGoose client (At i) = record { table = takenAt r i name isGoose client; taken = true }
 reservedAt r name isGoose client Nothing = record { table = r; taken = false }
@@ -80,6 +86,7 @@ withActive r active =
       active = active;
     }
 
+-- the reservations with that slot freed, if there is one
 abbrev pub freedAt : CbReservations → Found → CbReservations
 freedAt r (At i) = withActive r (set (r .active) i false)
 freedAt r Nothing = r
@@ -115,6 +122,7 @@ unfoldable pub cbChecked : CbReservations → List ℕ → Bool → ℕ → CbCh
 cbChecked r name isGoose address =
     cond (eqb (length name) 0) (record { table = r; hijack = false }) (usedBy r address (reservationOf r name isGoose))
 
+-- no slot in use
 abbrev pub noReservations : CbReservations
 noReservations =
     record {

@@ -1,10 +1,8 @@
 -- Rule lists (01, "Rules": at most 16 of each kind; "Refusals in checking order", 1 and 2).
 use Prim.Native.Nat.{ℕ, min}
 use mathlib.Core.Bool.{cond}
-use mathlib.Core.List.{List, [], _∷_}
 use lib.Dec.{ltb, leb}
 use Rattle.records.specs.declared.error.VsError.the-variants.{ResourceExhausted, InvalidInput}
-use Rattle.records.specs.Error.{errorNumber}
 use Rattle.inspection.specs.declared.monitor.Added.{Added}
 use Rattle.inspection.specs.declared.monitor.Added.the-variants.{Rule, Error}
 
@@ -15,11 +13,6 @@ ruleCount count = min count 16
 -- 1. on 16 rules ResourceExhausted; 2. a name over 64 octets InvalidInput
 unfoldable pub addAnswer : ℕ → ℕ → Added
 addAnswer count nameLength = cond (ltb count 16) (cond (leb nameLength 64) Rule (Error InvalidInput)) (Error ResourceExhausted)
-
--- the error's number where there is one: 6 or 9
-abbrev pub errorOf : Added → List ℕ
-errorOf Rule = []
-errorOf (Error e) = errorNumber e ∷ []
 
 -- what an add call leaves: a refused one changes nothing
 abbrev pub ifAdded : {A : Type 0} → Added → A → A → A

@@ -47,11 +47,12 @@ countOutcome c n =
     (cond (ltb c n) (ForwardGap (n - c))
     (cond (leb (c - n) 32766) Replay (acrossWrap (65536 - (c - n)))))
 
+-- a stream of which nothing is known is first seen
 abbrev pub svOutcome : Option ℕ → ℕ → SvSeqOutcome
 svOutcome none n = FirstSeen
 svOutcome (some c) n = countOutcome c n
 
--- the outcomes in 01's order, and their gaps
+-- the outcomes in 01's order
 abbrev pub outcomeNumber : SvSeqOutcome → ℕ
 outcomeNumber FirstSeen = 0
 outcomeNumber Replay = 1
@@ -59,6 +60,7 @@ outcomeNumber (ForwardGap gap) = 2
 outcomeNumber CycleWrap = 3
 outcomeNumber (SuspiciousSmpGap gap) = 4
 
+-- and the gap
 abbrev pub outcomeGap : SvSeqOutcome → ℕ
 outcomeGap FirstSeen = 0
 outcomeGap Replay = 0
@@ -66,10 +68,11 @@ outcomeGap (ForwardGap gap) = gap
 outcomeGap CycleWrap = 0
 outcomeGap (SuspiciousSmpGap gap) = gap
 
--- a replay stores nothing but use
+-- whether an outcome is replay
 unfoldable pub isReplay : SvSeqOutcome → Bool
 isReplay o = eqb (outcomeNumber o) (outcomeNumber Replay)
 
+-- a replay stores nothing but use
 abbrev pub keptCount : ℕ → ℕ → ℕ
 keptCount c n = cond (isReplay (countOutcome c n)) c n
 
@@ -78,6 +81,7 @@ unfoldable pub svChecked : SvSeqTable → List ℕ → ℕ → SvChecked
 svChecked t svid n =
     record { table = stepped svStreams First (λ i. i) keptCount t svid n; outcome = svOutcome (valueOf svStreams t svid) n }
 
+-- no streams
 abbrev pub noSvStreams : SvSeqTable
 noSvStreams = record { svid = noNames; «last_smp_cnt» = replicate 16 0; ageing = noUse }
 

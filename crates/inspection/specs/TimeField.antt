@@ -6,6 +6,7 @@ use lib.Dec.{eqb, ltb}
 use lib.ListN.{getD, set, replicate}
 use Rattle.records.specs.declared.ageing.EqualAges.the-variants.{First}
 use Rattle.records.specs.Ageing.{noUse, usedAt}
+use Rattle.records.specs.Search.{hasNumber}
 use Rattle.records.specs.Table.{Columns, valueOf, target, stepped}
 use Rattle.inspection.specs.declared.time_field.TimeTrackers.{TimeTrackers}
 use Rattle.inspection.specs.declared.time_field.TimePlan.{TimePlan}
@@ -15,7 +16,7 @@ use Rattle.inspection.specs.declared.time_field.TimeChecked.{TimeChecked
 abbrev pub clocks : Columns TimeTrackers ℕ (ℕ × ℕ)
 clocks = record {
   ageing = λ t. t .ageing;
-  matches = λ t address i. eqb (getD (t .«src_mac») i 0) address;
+  matches = λ t address. hasNumber (t .«src_mac») address;
   value = λ t i. (getD (t .«last_t_seconds») i 0, getD (t .«last_t_fraction») i 0);
   store = λ t i address pair. record {
     «src_mac» = set (t .«src_mac») i address;
@@ -52,6 +53,7 @@ timeChecked t limit address pair =
     })
     (record { table = t; alert = false })
 
+-- no clocks
 abbrev pub noClocks : TimeTrackers
 noClocks =
     record { «src_mac» = replicate 16 0; «last_t_seconds» = replicate 16 0; «last_t_fraction» = replicate 16 0; ageing = noUse }

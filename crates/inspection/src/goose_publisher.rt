@@ -2,9 +2,7 @@
 // changed: a column for each field, and no flag, since a rule below the count is always there.
 ghost use mathlib.Core.Path.{_≡_};
 ghost use Rattle.records.specs.Name.{sameName};
-ghost use Rattle.records.specs.Search.{firstFrom};
-ghost use Rattle.inspection.specs.Rules.{ruleCount};
-ghost use Rattle.inspection.specs.GoosePublisher.{ruleFits, gooseFitsAt, noGoosePublishers};
+ghost use Rattle.inspection.specs.GoosePublisher.{ruleFits, firstFitting, noGoosePublishers};
 use crate::rules::rule_count;
 use records::name::Names;
 use records::name::same_name;
@@ -62,7 +60,7 @@ pub fn goose_publisher<'a>(
     go_cb_ref: &'a [u8; 64],
     go_cb_ref_len: u8,
 ) -> Found
-    ensures { λ r. ⌜ r ≡ firstFrom (gooseFitsAt (now («src_macs» .entry)) (now (octets .entry)) (now (lens .entry)) «src_mac» (now («go_cb_ref» .entry)) «go_cb_ref_len») 0 (ruleCount count) ⌝ }
+    ensures { λ r. ⌜ r ≡ firstFitting (now («src_macs» .entry)) (now (octets .entry)) (now (lens .entry)) count «src_mac» (now («go_cb_ref» .entry)) «go_cb_ref_len» ⌝ }
 {
     let n = rule_count(count);
     let mut i: usize = 0;

@@ -1,13 +1,10 @@
 // GOOSE streams, carried over from industrial/iec61850-monitor/src/lib.rs of craton-shield a31d888527 (Apache-2.0) and changed:
 // a column for each field; no flag for a stream without numbers, since there is none.
 ghost use mathlib.Core.Path.{_≡_};
-ghost use mathlib.Core.Bool.{false, _&&_};
 ghost use mathlib.Core.List.{List};
 ghost use Prim.Native.Nat.{ℕ, min, _-_, _^_};
-ghost use lib.Dec.{eqb};
-ghost use lib.ListN.{getD};
-ghost use Rattle.records.specs.Search.{first};
-ghost use Rattle.inspection.specs.GooseSeq.{noGooseStreams, replays, outsideTolerance, retxChecked, gooseChecked, goosePlanOf, goosePlan};
+ghost use Rattle.records.specs.Search.{firstUsed};
+ghost use Rattle.inspection.specs.GooseSeq.{hasStream, noGooseStreams, replays, outsideTolerance, retxChecked, gooseChecked, goosePlanOf, goosePlan};
 use records::ageing::Ageing;
 use records::ageing::EqualAges;
 use records::ageing::next_tick;
@@ -92,7 +89,7 @@ pub fn find_goose_seq<'a>(
     src_mac: u64,
     go_cb_ref_hash: u32,
 ) -> Found
-    ensures { λ r. ⌜ r ≡ first (λ i. getD (now (active .entry)) i false && (eqb (getD (now («src_macs» .entry)) i 0) «src_mac» && eqb (getD (now (hashes .entry)) i 0) «go_cb_ref_hash»)) ⌝ }
+    ensures { λ r. ⌜ r ≡ firstUsed (now (active .entry)) (hasStream (now («src_macs» .entry)) (now (hashes .entry)) («src_mac», «go_cb_ref_hash»)) ⌝ }
 {
     let mut i: usize = 0;
     loop {

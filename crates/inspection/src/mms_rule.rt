@@ -1,10 +1,7 @@
 // MMS rules, carried over from industrial/iec61850-monitor/src/lib.rs of craton-shield a31d888527 (Apache-2.0) and changed: a
 // column for each field, and no flag, since a rule below the count is always there.
 ghost use mathlib.Core.Path.{_≡_};
-ghost use lib.ListN.{getD};
-ghost use Rattle.records.specs.Search.{firstFrom};
-ghost use Rattle.inspection.specs.Rules.{ruleCount};
-ghost use Rattle.inspection.specs.MmsRule.{hasBit, applies, noMmsRules};
+ghost use Rattle.inspection.specs.MmsRule.{hasBit, applies, firstApplying, noMmsRules};
 use crate::rules::rule_count;
 use records::search::Found;
 
@@ -29,7 +26,7 @@ impl MmsRules {
     }
 }
 
-// Whether a mask has the bit of a raw number, which is below 16.
+// Whether a mask has the bit of a raw number; only numbers below 16 have one.
 pub fn has_bit(mask: u16, raw: u8) -> bool
     ensures { λ r. ⌜ r ≡ hasBit mask raw ⌝ }
 {
@@ -51,7 +48,7 @@ pub fn applies(mask: u16, raw: u8) -> bool
 
 // The place of the first rule that applies.
 pub fn first_rule(service_mask: &[u16; 16], count: u8, raw: u8) -> Found
-    ensures { λ r. ⌜ r ≡ firstFrom (λ i. applies (getD (now («service_mask» .entry)) i 0) raw) 0 (ruleCount count) ⌝ }
+    ensures { λ r. ⌜ r ≡ firstApplying (now («service_mask» .entry)) count raw ⌝ }
 {
     let n = rule_count(count);
     let mut i: usize = 0;

@@ -40,6 +40,7 @@ pub struct Totals {
     pub alerts: AlertCounters,
 }
 
+// The whole state: what an entry takes and gives back.
 pub struct Iec61850Monitor {
     pub settings: Settings,
     pub rules: Rules,
@@ -60,13 +61,13 @@ pub struct Configured {
     pub answer: Added,
 }
 
-// The monitor after an inspection, with the verdict.
+// The monitor after an inspection, with the result.
 pub struct Inspected {
     pub monitor: Iec61850Monitor,
     pub result: InspectResult,
 }
 
-// The monitor after a raw SV frame, with the verdict; a frame that cannot be read leaves the monitor, and a clean result.
+// The monitor after a raw SV frame, with the result; a frame that cannot be read leaves the monitor, and a clean result.
 pub struct RawInspected {
     pub answer: Parsed,
     pub monitor: Iec61850Monitor,
@@ -115,14 +116,14 @@ fn fresh(strict_mode: bool) -> Iec61850Monitor
 }
 
 impl Iec61850Monitor {
-    // A frame that no rule knows is allowed.
+    // Not strict.
     pub fn new() -> Self
         ensures { λ r. ⌜ r ≡ newMonitor false ⌝ }
     {
         fresh(false)
     }
 
-    // A frame that no rule knows is refused, if there are rules of its kind.
+    // Strict: a request that no rule applies to, and an svID not among the publishers, are refused.
     pub fn new_strict() -> Self
         ensures { λ r. ⌜ r ≡ newMonitor true ⌝ }
     {

@@ -1,10 +1,7 @@
 // Rate limits of MMS requests, carried over from industrial/iec61850-monitor/src/lib.rs of craton-shield a31d888527
 // (Apache-2.0) and changed: a column for each field.
 ghost use mathlib.Core.Path.{_≡_};
-ghost use mathlib.Core.Bool.{false, _&&_};
-ghost use lib.Dec.{eqb};
-ghost use lib.ListN.{getD};
-ghost use Rattle.records.specs.Search.{first};
+ghost use Rattle.records.specs.Search.{firstUsed, hasNumber};
 ghost use Rattle.inspection.specs.Rate.{noBuckets, buckets, ratePlan, rateChecked};
 use records::ageing::Ageing;
 use records::ageing::EqualAges;
@@ -68,7 +65,7 @@ impl RateBuckets {
 
 // The slot in use of a key.
 fn find_bucket<'a>(keys: &'a [u32; 16], active: &'a [bool; 16], key: u32) -> Found
-    ensures { λ r. ⌜ r ≡ first (λ i. getD (now (active .entry)) i false && eqb (getD (now (keys .entry)) i 0) key) ⌝ }
+    ensures { λ r. ⌜ r ≡ firstUsed (now (active .entry)) (hasNumber (now (keys .entry)) key) ⌝ }
 {
     let mut i: usize = 0;
     loop {

@@ -1,13 +1,10 @@
 // Reservations of control blocks, carried over from industrial/iec61850-monitor/src/lib.rs of craton-shield a31d888527
 // (Apache-2.0) and changed: a column for each field; no last use, which nothing reads.
 ghost use mathlib.Core.Path.{_≡_};
-ghost use mathlib.Core.Bool.{_&&_};
-ghost use lib.Dec.{eqb};
-ghost use lib.ListN.{getD};
 ghost use Rattle.records.specs.Ageing.{firstFree};
 ghost use Rattle.records.specs.Name.{nameOf};
-ghost use Rattle.records.specs.Search.{first};
-ghost use Rattle.inspection.specs.Reservation.{sameKind, reservesAt, placeOr, reserved, freedBelow, released, usedBy, cbChecked, noReservations};
+ghost use Rattle.records.specs.Search.{first, hasNumber};
+ghost use Rattle.inspection.specs.Reservation.{sameKind, reservesAt, ownedAt, placeOr, reserved, freedBelow, released, usedBy, cbChecked, noReservations};
 use records::ageing::first_free;
 use records::name::Names;
 use records::name::padded;
@@ -121,7 +118,7 @@ pub fn find_owned<'a>(
     is_goose: bool,
     client_id: u32,
 ) -> Found
-    ensures { λ r. ⌜ r ≡ first (λ i. reservesAt (now (octets .entry)) (now (lens .entry)) (now (kinds .entry)) (now (active .entry)) (now (name .entry)) len «is_goose» i && eqb (getD (now (owners .entry)) i 0) «client_id») ⌝ }
+    ensures { λ r. ⌜ r ≡ first (ownedAt (now (octets .entry)) (now (lens .entry)) (now (kinds .entry)) (now (owners .entry)) (now (active .entry)) (now (name .entry)) len «is_goose» «client_id») ⌝ }
 {
     let mut i: usize = 0;
     loop {
@@ -157,7 +154,7 @@ pub fn place_for<'a>(
 
 // Frees the slots of a client.
 pub fn free_of_client<'a>(active: &'a mut [bool; 16], owners: &'a [u32; 16], client_id: u32)
-    ensures { λ _. ⌜ now (active .exit) ≡ freedBelow (λ i. eqb (getD (now (owners .entry)) i 0) «client_id») (now (active .entry)) 16 ⌝ }
+    ensures { λ _. ⌜ now (active .exit) ≡ freedBelow (hasNumber (now (owners .entry)) «client_id») (now (active .entry)) 16 ⌝ }
 {
     let mut i: usize = 0;
     while i < 16 {

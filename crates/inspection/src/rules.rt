@@ -1,4 +1,4 @@
-// Rule lists, carried over from industrial/iec61850-monitor/src/lib.rs of craton-shield a31d888527 (Apache-2.0).
+// Rule lists. The Rust would go past its array for a count above 16, which no call leads to.
 ghost use mathlib.Core.Path.{_≡_};
 ghost use Rattle.inspection.specs.Rules.{ruleCount};
 

@@ -1,13 +1,7 @@
 // SV publishers, carried over from industrial/iec61850-monitor/src/lib.rs of craton-shield a31d888527 (Apache-2.0) and changed:
 // a column for each field, and no flag, since a rule below the count is always there.
 ghost use mathlib.Core.Path.{_≡_};
-ghost use mathlib.Core.Bool.{_&&_};
-ghost use lib.Dec.{eqb};
-ghost use lib.ListN.{getD};
-ghost use Rattle.records.specs.Name.{sameName};
-ghost use Rattle.records.specs.Search.{lastBelow, isFound};
-ghost use Rattle.inspection.specs.Rules.{ruleCount};
-ghost use Rattle.inspection.specs.SvPublisher.{unfit, publisherAt, noSvPublishers};
+ghost use Rattle.inspection.specs.SvPublisher.{notFitting, matchAt, lastFitting, noSvPublishers};
 use crate::rules::rule_count;
 use records::name::Names;
 use records::name::same_name;
@@ -21,8 +15,8 @@ pub struct SvPublishers {
     pub count: u8,
 }
 
-// How a frame's svID and address stand to the publishers: fitting, at the last place that fits.
-pub enum SvPublisher {
+// How a frame's svID and address match the rules: fitting, at the last place that fits.
+pub enum PublisherMatch {
     NotRegistered,
     WrongAddress,
     Fits(usize),
@@ -42,28 +36,28 @@ impl SvPublishers {
     }
 }
 
-// How an svID stands that no rule fits: registered with another address, or not at all.
-pub fn unfit(registered: bool) -> SvPublisher
-    ensures { λ r. ⌜ r ≡ unfit registered ⌝ }
+// What an svID that no rule fits is: registered with another address, or not at all.
+pub fn unfit(registered: bool) -> PublisherMatch
+    ensures { λ r. ⌜ r ≡ notFitting registered ⌝ }
 {
     if registered {
-        SvPublisher::WrongAddress
+        PublisherMatch::WrongAddress
     } else {
-        SvPublisher::NotRegistered
+        PublisherMatch::NotRegistered
     }
 }
 
-// How an svID stands, by whether some rule has it and by the last place that fits.
-pub fn publisher_at(registered: bool, place: Found) -> SvPublisher
-    ensures { λ r. ⌜ r ≡ publisherAt registered place ⌝ }
+// The last place that fits, or why there is none.
+pub fn publisher_at(registered: bool, place: Found) -> PublisherMatch
+    ensures { λ r. ⌜ r ≡ matchAt registered place ⌝ }
 {
     match place {
-        Found::At(i) => SvPublisher::Fits(i),
+        Found::At(i) => PublisherMatch::Fits(i),
         Found::Nothing => unfit(registered),
     }
 }
 
-// How an svID and an address stand to the publishers: every rule is asked, since the last that fits counts.
+// How an svID and an address match the rules: every rule is compared, since the last that fits counts.
 pub fn sv_publisher<'a>(
     src_macs: &'a [u64; 16],
     octets: &'a [u8; 1024],
@@ -72,8 +66,8 @@ pub fn sv_publisher<'a>(
     src_mac: u64,
     svid: &'a [u8; 64],
     svid_len: u8,
-) -> SvPublisher
-    ensures { λ r. ⌜ r ≡ publisherAt (isFound (lastBelow (λ i. sameName (now (octets .entry)) (now (lens .entry)) i (now (svid .entry)) «svid_len») (ruleCount count))) (lastBelow (λ i. sameName (now (octets .entry)) (now (lens .entry)) i (now (svid .entry)) «svid_len» && eqb (getD (now («src_macs» .entry)) i 0) «src_mac») (ruleCount count)) ⌝ }
+) -> PublisherMatch
+    ensures { λ r. ⌜ r ≡ lastFitting (now («src_macs» .entry)) (now (octets .entry)) (now (lens .entry)) count «src_mac» (now (svid .entry)) «svid_len» ⌝ }
 {
     let n = rule_count(count);
     let mut registered = false;

@@ -1,10 +1,8 @@
 // SV streams, carried over from industrial/iec61850-monitor/src/lib.rs of craton-shield a31d888527 (Apache-2.0) and changed: a
 // column for each field; no flag for a stream without a count, since there is none, and no time, which nothing reads.
 ghost use mathlib.Core.Path.{_≡_};
-ghost use mathlib.Core.Bool.{false, _&&_};
-ghost use lib.ListN.{getD};
 ghost use Rattle.records.specs.Name.{sameName, nameOf};
-ghost use Rattle.records.specs.Search.{first};
+ghost use Rattle.records.specs.Search.{firstUsed};
 ghost use Rattle.inspection.specs.SvSeq.{noSvStreams, countOutcome, outcomeNumber, isReplay, svChecked, svPlan};
 use records::ageing::Ageing;
 use records::ageing::EqualAges;
@@ -74,7 +72,7 @@ impl SvSeqOutcome {
         }
     }
 
-    // Whether the count is one that was seen.
+    // Whether the count is a replay.
     pub fn is_replay(self) -> bool
         ensures { λ r. ⌜ r ≡ isReplay self ⌝ }
     {
@@ -111,7 +109,7 @@ pub fn find_sv_seq<'a>(
     svid: &'a [u8; 64],
     svid_len: u8,
 ) -> Found
-    ensures { λ r. ⌜ r ≡ first (λ i. getD (now (active .entry)) i false && sameName (now (octets .entry)) (now (lens .entry)) i (now (svid .entry)) «svid_len») ⌝ }
+    ensures { λ r. ⌜ r ≡ firstUsed (now (active .entry)) (λ i. sameName (now (octets .entry)) (now (lens .entry)) i (now (svid .entry)) «svid_len») ⌝ }
 {
     let mut i: usize = 0;
     loop {

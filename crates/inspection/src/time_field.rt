@@ -1,11 +1,8 @@
 // Clocks, carried over from industrial/iec61850-monitor/src/lib.rs of craton-shield a31d888527 (Apache-2.0) and changed: a
 // column for each field; no flag for a clock without a pair, since there is none.
 ghost use mathlib.Core.Path.{_≡_};
-ghost use mathlib.Core.Bool.{false, _&&_};
 ghost use mathlib.Core.Option.{some};
-ghost use lib.Dec.{eqb};
-ghost use lib.ListN.{getD};
-ghost use Rattle.records.specs.Search.{first};
+ghost use Rattle.records.specs.Search.{firstUsed, hasNumber};
 ghost use Rattle.inspection.specs.TimeField.{noClocks, clocks, hasClock, clockAlert, timePlan, timeChecked};
 use records::ageing::Ageing;
 use records::ageing::EqualAges;
@@ -71,7 +68,7 @@ fn clock_alerts(
 
 // The slot in use of an address.
 fn find_clock<'a>(src_macs: &'a [u64; 16], active: &'a [bool; 16], src_mac: u64) -> Found
-    ensures { λ r. ⌜ r ≡ first (λ i. getD (now (active .entry)) i false && eqb (getD (now («src_macs» .entry)) i 0) «src_mac») ⌝ }
+    ensures { λ r. ⌜ r ≡ firstUsed (now (active .entry)) (hasNumber (now («src_macs» .entry)) «src_mac») ⌝ }
 {
     let mut i: usize = 0;
     loop {

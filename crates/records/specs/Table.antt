@@ -1,6 +1,6 @@
 -- The tables that give up their oldest entry (01, "Remembered tables"): what a frame finds in one and leaves in it, over key and value.
 use Prim.Native.Nat.{ℕ}
-use mathlib.Core.Bool.{Bool, false, _&&_}
+use mathlib.Core.Bool.{Bool, false}
 use mathlib.Core.Option.{Option, none, some}
 use lib.ListN.{getD}
 use Rattle.records.specs.declared.search.Found.{Found}
@@ -9,7 +9,7 @@ use Rattle.records.specs.declared.ageing.Ageing.{Ageing}
 use Rattle.records.specs.declared.ageing.EqualAges.{EqualAges}
 use Rattle.records.specs.Ageing.{newSlot}
 use Rattle.records.specs.Remembered.{after}
-use Rattle.records.specs.Search.{first, slotOr}
+use Rattle.records.specs.Search.{firstUsed, slotOr}
 
 -- whether a slot is in use
 abbrev pub inUse : Ageing → ℕ → Bool
@@ -25,7 +25,7 @@ pub record Columns (T K W : Type 0) : Type 0 where
 module _ {T K W : Type 0} (C : Columns T K W) where
   -- the first slot in use that has key k
   abbrev pub slotOf : T → K → Found
-  slotOf t k = first (λ i. inUse (C .ageing t) i && C .matches t k i)
+  slotOf t k = firstUsed (C .ageing t .active) (C .matches t k)
 
   -- the value of a slot that was found
   abbrev pub valueAt : T → Found → Option W
