@@ -33,7 +33,7 @@ use Rattle.inspection.specs.TimeField.{hasClock, clockAlert}
 use Rattle.inspection.proofs.AddressLaws.{addressOctets, address-octets, address-back, address-fits}
 use Rattle.inspection.proofs.Observables.{Name, Hash, Numbers, svAnswer, svObservable, gooseAnswer, gooseObservable, clockObservable}
 use Rattle.inspection.proofs.PlainMonitor.{Plain, Left, left as leftBy, answers-from}
-use Rattle.inspection.proofs.RememberedLaws.{names≟, pairs≟, touchSv, touchGoose, touchClock, move, moved, found, listAnswer, listAnswers, remembered-lists, remembers-history, answers-lists, newRemembering, remembers-new}
+use Rattle.inspection.proofs.RememberedLaws.{names≟, pairs≟, touchSv, touchGoose, touchClock, listsAfter, moved, listFindings, listAnswer, listAnswers, remembered-lists, remembers-history, answers-lists, newRemembering, remembers-new}
 use Rattle.inspection.proofs.ReportLaws.{answerFrom, length-codes}
 use Rattle.inspection.proofs.SettingLaws.{configured-untouched}
 
@@ -89,12 +89,12 @@ pub record Further (s : Settings) (l l′ : RememberedLists) : Type 0 where
 module _ {K I : Type 0} {P : K × I → Type 0} (s : Settings) (l l′ : RememberedLists) (make : (x : K × I) → P x → Inspection) (legal : (x : K × I) (p : P x) → LegalOne (make x p)) where
   -- fewer than sixteen inspections, and one that is answered differently after them
   unfoldable pub further-of : (xs : List (K × I)) (a : All P xs) (x : K × I) (p : P x) → length xs < 16
-      → listAnswer s (foldl (move s) l (made make xs a)) (make x p) ≢ listAnswer s (foldl (move s) l′ (made make xs a)) (make x p) → Further s l l′
+      → listAnswer s (foldl (listsAfter s) l (made make xs a)) (make x p) ≢ listAnswer s (foldl (listsAfter s) l′ (made make xs a)) (make x p) → Further s l l′
   further-of xs a x p h d = record {
     further = withLast make xs a x p;
     legal = legal-made make legal xs a x p;
     short = rw (length-append (made make xs a) (make x p ∷ []), length-made make xs a) (omega arith);
-    unequal = λ q. d (outputs-last (listAnswer s) (move s) l l′ (made make xs a) (make x p) q);
+    unequal = λ q. d (outputs-last (listAnswer s) (listsAfter s) l l′ (made make xs a) (make x p) q);
   }
 
 -- ---- SV streams: a frame without a clock
@@ -152,10 +152,10 @@ module _ (s : Settings) where
       fillers : List Inspection
       fillers = made (svInspection gapOf) (d .fillers) (d .legal)
 
-      at : (z : RememberedLists) → listAnswer s (foldl (move s) z fillers) (svInspection gapOf (d .last) (d .legal-last))
+      at : (z : RememberedLists) → listAnswer s (foldl (listsAfter s) z fillers) (svInspection gapOf (d .last) (d .legal-last))
           ≡ answer names≟ (svAnswer gapOf) (foldl touchSv (z .svStreams) (d .fillers)) (d .last)
       at z =
-          sv-answer (foldl (move s) z fillers) (d .last) (d .legal-last)
+          sv-answer (foldl (listsAfter s) z fillers) (d .last) (d .legal-last)
           ∙ ap (λ (m : List (List ℕ × ℕ)). answer names≟ (svAnswer gapOf) m (d .last))
           (ap (λ (m : RememberedLists). m .svStreams) (moved s z fillers)
           ∙ ap (λ (xs : List (List ℕ × ℕ)). foldl touchSv (z .svStreams) xs) (reaching-made (svInspection gapOf) svReaches sv-reaches (d .fillers) (d .legal)))
@@ -208,10 +208,10 @@ module _ (s : Settings) where
       fillers : List Inspection
       fillers = made gooseInspection (d .fillers) (d .legal)
 
-      at : (z : RememberedLists) → listAnswer s (foldl (move s) z fillers) (gooseInspection (d .last) (d .legal-last))
+      at : (z : RememberedLists) → listAnswer s (foldl (listsAfter s) z fillers) (gooseInspection (d .last) (d .legal-last))
           ≡ answer pairs≟ gooseAnswer (foldl touchGoose (z .gooseStreams) (d .fillers)) (d .last)
       at z =
-          goose-answer (foldl (move s) z fillers) (d .last) (d .legal-last)
+          goose-answer (foldl (listsAfter s) z fillers) (d .last) (d .legal-last)
           ∙ ap (λ (m : List ((ℕ × ℕ) × (ℕ × ℕ))). answer pairs≟ gooseAnswer m (d .last))
           (ap (λ (m : RememberedLists). m .gooseStreams) (moved s z fillers)
           ∙ ap (λ (xs : List ((ℕ × ℕ) × (ℕ × ℕ))). foldl touchGoose (z .gooseStreams) xs) (reaching-made gooseInspection (gooseReaches s) goose-reaches (d .fillers) (d .legal)))
@@ -297,10 +297,10 @@ module _ (s : Settings) (range : JumpLimit (s .«time_max_forward_jump_s»)) whe
       alert : RememberedLists → Bool
       alert z = answer ℕ-discrete (clockAlert limit) (foldl touchClock (z .clocks) (d .fillers)) (d .last)
 
-      at : (z : RememberedLists) → listAnswer s (foldl (move s) z fillers) (clockInspection (d .last) (d .legal-last))
+      at : (z : RememberedLists) → listAnswer s (foldl (listsAfter s) z fillers) (clockInspection (d .last) (d .legal-last))
           ≡ answerFrom true [] (clockFindings (alert z) ++ unnamed (streams z))
       at z =
-          clock-answer (foldl (move s) z fillers) (d .last) (d .legal-last)
+          clock-answer (foldl (listsAfter s) z fillers) (d .last) (d .legal-last)
           ∙ ap (λ (m : RememberedLists). answerFrom true [] (clockFindings (answer ℕ-discrete (clockAlert limit) (m .clocks) (d .last)) ++ unnamed (m .svStreams))) (moved s z fillers)
           ∙ ap (λ (xs : List (ℕ × (ℕ × ℕ))). answerFrom true [] (clockFindings (answer ℕ-discrete (clockAlert limit) (foldl touchClock (z .clocks) xs) (d .last)) ++ unnamed (streams z)))
           (reaching-made clockInspection (clockReaches s) clock-reaches (d .fillers) (d .legal))

@@ -1,4 +1,5 @@
 pub mod AddressLaws
+pub mod OutcomeLaws
 pub mod SvSeqLaws
 pub mod GooseSeqLaws
 pub mod SvPublisherLaws
@@ -11,4 +12,5 @@ pub mod RememberedLaws
 pub mod Observables
 pub mod Demand3Holds
 pub mod Demand3Instances
+pub mod Demand3MixedHolds
 pub mod PointsHold

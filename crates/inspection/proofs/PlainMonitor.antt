@@ -41,37 +41,37 @@ use Rattle.inspection.proofs.ReportLaws.{answerFrom, reported-answer}
 
 -- what the inspections read and write of a monitor
 pub record Remembering : Type 0 where
-  pub svs : SvSeqTable
-  pub gooses : GooseSeqTable
-  pub times : TimeTrackers
+  pub svSeq : SvSeqTable
+  pub gooseSeq : GooseSeqTable
+  pub timeTrackers : TimeTrackers
 
 abbrev pub remembering : Iec61850Monitor → Remembering
-remembering m = record { svs = m .tables .«sv_seq»; gooses = m .tables .«goose_seq»; times = m .tables .«time_trackers» }
+remembering m = record { svSeq = m .tables .«sv_seq»; gooseSeq = m .tables .«goose_seq»; timeTrackers = m .tables .«time_trackers» }
 
 module _ (s : Settings) (v : Remembering) where
   abbrev pub clockOf : List ℕ → ℕ × ℕ → TimeChecked
-  clockOf mac pair = timeChecked (v .times) (s .«time_max_forward_jump_s») (addressOf mac) pair
+  clockOf mac pair = timeChecked (v .timeTrackers) (s .«time_max_forward_jump_s») (addressOf mac) pair
 
   abbrev pub next : Inspection → Remembering
   next (goose f) =
       cond (blocked s f) v (record {
-        svs = v .svs;
-        gooses = gooseChecked (v .gooses) (gooseKey f) (gooseTimed f) .table;
-        times = clockOf (f .«src_mac») (goosePair f) .table;
+        svSeq = v .svSeq;
+        gooseSeq = gooseChecked (v .gooseSeq) (gooseKey f) (gooseTimed f) .table;
+        timeTrackers = clockOf (f .«src_mac») (goosePair f) .table;
       })
   next (sv f) = record {
-    svs = svChecked (v .svs) (svKey f) (f .«smp_cnt») .table;
-    gooses = v .gooses;
-    times = clockOf (f .«src_mac») (svPair f) .table;
+    svSeq = svChecked (v .svSeq) (svKey f) (f .«smp_cnt») .table;
+    gooseSeq = v .gooseSeq;
+    timeTrackers = clockOf (f .«src_mac») (svPair f) .table;
   }
 
   abbrev pub findings : Inspection → List Finding
   findings (goose f) =
       cond (blocked s f) (refusal Medium PolicyViolation ∷ [])
-      (clockFindings (clockOf (f .«src_mac») (goosePair f) .alert) ++ streamFindings (gooseChecked (v .gooses) (gooseKey f) (gooseTimed f) .replay) false)
+      (clockFindings (clockOf (f .«src_mac») (goosePair f) .alert) ++ streamFindings (gooseChecked (v .gooseSeq) (gooseKey f) (gooseTimed f) .replay) false)
   findings (sv f) =
       clockFindings (clockOf (f .«src_mac») (svPair f) .alert)
-      ++ countFindings (s .«sv_max_smp_cnt_gap») [] (svChecked (v .svs) (svKey f) (f .«smp_cnt») .outcome)
+      ++ countFindings (s .«sv_max_smp_cnt_gap») [] (svChecked (v .svSeq) (svKey f) (f .«smp_cnt») .outcome)
 
 -- ---- without reservations and publishers
 

@@ -63,8 +63,8 @@ replayed none new = false
 replayed (some last) new = replays last new
 
 module _ (s : Settings) where
-  abbrev pub move : RememberedLists → Inspection → RememberedLists
-  move l x = record {
+  abbrev pub listsAfter : RememberedLists → Inspection → RememberedLists
+  listsAfter l x = record {
     svStreams = foldl touchSv (l .svStreams) (svReaches x);
     gooseStreams = foldl touchGoose (l .gooseStreams) (gooseReaches s x);
     clocks = foldl touchClock (l .clocks) (clockReaches s x);
@@ -74,42 +74,42 @@ module _ (s : Settings) where
   clockAnswer l address pair = cond (hasClock pair) (clockAlert (s .«time_max_forward_jump_s») (lookup ℕ-discrete address l) pair) false
 
   -- what the checks find, from the lists
-  abbrev pub found : RememberedLists → Inspection → List Finding
-  found l (goose f) =
+  abbrev pub listFindings : RememberedLists → Inspection → List Finding
+  listFindings l (goose f) =
       cond (blocked s f) (refusal Medium PolicyViolation ∷ [])
       (clockFindings (clockAnswer (l .clocks) (addressOf (f .«src_mac»)) (goosePair f))
       ++ streamFindings (replayed (lookup pairs≟ (gooseKey f) (l .gooseStreams)) (gooseNumbers f)) false)
-  found l (sv f) =
+  listFindings l (sv f) =
       clockFindings (clockAnswer (l .clocks) (addressOf (f .«src_mac»)) (svPair f))
       ++ countFindings (s .«sv_max_smp_cnt_gap») [] (svOutcome (lookup names≟ (svKey f) (l .svStreams)) (f .«smp_cnt»))
 
 module _ (s : Settings) where
   abbrev pub listAnswer : RememberedLists → Inspection → Answer
-  listAnswer l x = answerFrom true [] (found s l x)
+  listAnswer l x = answerFrom true [] (listFindings s l x)
 
 module _ (s : Settings) where
   abbrev pub listAnswers : RememberedLists → List Inspection → List Answer
-  listAnswers = outputs (listAnswer s) (move s)
+  listAnswers = outputs (listAnswer s) (listsAfter s)
 
 fold-append : {L X : Type 0} (f : L → X → L) (l : L) (a b : List X) → foldl f l (a ++ b) ≡ foldl f (foldl f l a) b
 fold-append f l [] b = refl
 fold-append f l (x ∷ a) b = fold-append f (f l x) a b
 
 -- the lists that a history leaves are those that are read off it
-pub moved : (s : Settings) (l : RememberedLists) (h : List Inspection) → foldl (move s) l h ≡ record {
+pub moved : (s : Settings) (l : RememberedLists) (h : List Inspection) → foldl (listsAfter s) l h ≡ record {
   svStreams = foldl touchSv (l .svStreams) (reaching svReaches h);
   gooseStreams = foldl touchGoose (l .gooseStreams) (reaching (gooseReaches s) h);
   clocks = foldl touchClock (l .clocks) (reaching (clockReaches s) h);
 }
 moved s l [] = refl
 moved s l (x ∷ h) =
-    moved s (move s l x) h ∙ (λ i. record {
+    moved s (listsAfter s l x) h ∙ (λ i. record {
       svStreams = sym (fold-append touchSv (l .svStreams) (svReaches x) (reaching svReaches h)) i;
       gooseStreams = sym (fold-append touchGoose (l .gooseStreams) (gooseReaches s x) (reaching (gooseReaches s) h)) i;
       clocks = sym (fold-append touchClock (l .clocks) (clockReaches s x) (reaching (clockReaches s) h)) i;
     })
 
-pub remembered-lists : (s : Settings) (h : List Inspection) → foldl (move s) noLists h ≡ rememberedLists s h
+pub remembered-lists : (s : Settings) (h : List Inspection) → foldl (listsAfter s) noLists h ≡ rememberedLists s h
 remembered-lists s h =
     moved s noLists h ∙ (λ i. record {
       svStreams = by-last-use names≟ 16 (λ n. n) countAfter (reaching svReaches h) i;
@@ -220,71 +220,71 @@ module _ {b : ℕ} {t : TimeTrackers} {l : List (ℕ × (ℕ × ℕ))} (u : Used
 -- ---- the three together
 
 pub record Remembers (b : ℕ) (v : Remembering) (l : RememberedLists) : Type 0 where
-  pub svs : Used svTable b (v .svs) (l .svStreams)
-  pub gooses : UsedGoose b (v .gooses) (l .gooseStreams)
-  pub times : Used clockTable b (v .times) (l .clocks)
+  pub svSeq : Used svTable b (v .svSeq) (l .svStreams)
+  pub gooseSeq : UsedGoose b (v .gooseSeq) (l .gooseStreams)
+  pub timeTrackers : Used clockTable b (v .timeTrackers) (l .clocks)
 
 goose-more : {b : ℕ} {t : GooseSeqTable} {l : List ((ℕ × ℕ) × (ℕ × ℕ))} → UsedGoose b t l → UsedGoose (suc b) t l
 goose-more u = record { timed = u .timed; used = used-more (u .used); numbers = u .numbers }
 
 module _ (s : Settings) {b : ℕ} {v : Remembering} {l : RememberedLists} (r : Remembers b v l) where
-  remembers-next : suc b < 2 ^ 32 → (x : Inspection) → Remembers (suc b) (next s v x) (move s l x)
+  remembers-next : suc b < 2 ^ 32 → (x : Inspection) → Remembers (suc b) (next s v x) (listsAfter s l x)
   remembers-next w (sv f) = record {
-    svs = sv-next (r .svs) f w;
-    gooses = goose-more (r .gooses);
-    times = clock-next (r .times) (s .«time_max_forward_jump_s») (addressOf (f .«src_mac»)) (svPair f) w;
+    svSeq = sv-next (r .svSeq) f w;
+    gooseSeq = goose-more (r .gooseSeq);
+    timeTrackers = clock-next (r .timeTrackers) (s .«time_max_forward_jump_s») (addressOf (f .«src_mac»)) (svPair f) w;
   }
   remembers-next w (goose f) = go (blocked s f)
     where
       go : (c : Bool)
           → Remembers (suc b)
           (cond c v (record {
-            svs = v .svs;
-            gooses = gooseChecked (v .gooses) (gooseKey f) (gooseTimed f) .table;
-            times = timeChecked (v .times) (s .«time_max_forward_jump_s») (addressOf (f .«src_mac»)) (goosePair f) .table;
+            svSeq = v .svSeq;
+            gooseSeq = gooseChecked (v .gooseSeq) (gooseKey f) (gooseTimed f) .table;
+            timeTrackers = timeChecked (v .timeTrackers) (s .«time_max_forward_jump_s») (addressOf (f .«src_mac»)) (goosePair f) .table;
           }))
           (record {
             svStreams = l .svStreams;
             gooseStreams = foldl touchGoose (l .gooseStreams) (cond c [] ((gooseKey f, gooseNumbers f) ∷ []));
             clocks = foldl touchClock (l .clocks) (cond c [] (ifClock (addressOf (f .«src_mac»)) (goosePair f)));
           })
-      go true = record { svs = used-more (r .svs); gooses = goose-more (r .gooses); times = used-more (r .times) }
+      go true = record { svSeq = used-more (r .svSeq); gooseSeq = goose-more (r .gooseSeq); timeTrackers = used-more (r .timeTrackers) }
       go false = record {
-        svs = used-more (r .svs);
-        gooses = goose-next (r .gooses) f w;
-        times = clock-next (r .times) (s .«time_max_forward_jump_s») (addressOf (f .«src_mac»)) (goosePair f) w;
+        svSeq = used-more (r .svSeq);
+        gooseSeq = goose-next (r .gooseSeq) f w;
+        timeTrackers = clock-next (r .timeTrackers) (s .«time_max_forward_jump_s») (addressOf (f .«src_mac»)) (goosePair f) w;
       }
 
-  findings-found : (x : Inspection) → findings s v x ≡ found s l x
+  findings-found : (x : Inspection) → findings s v x ≡ listFindings s l x
   findings-found (sv f) =
-      rw (clock-alert (r .times) (s .«time_max_forward_jump_s») (addressOf (f .«src_mac»)) (svPair f), sv-outcome (r .svs) f)
+      rw (clock-alert (r .timeTrackers) (s .«time_max_forward_jump_s») (addressOf (f .«src_mac»)) (svPair f), sv-outcome (r .svSeq) f)
   findings-found (goose f) =
-      rw (clock-alert (r .times) (s .«time_max_forward_jump_s») (addressOf (f .«src_mac»)) (goosePair f), goose-replay (r .gooses) f)
+      rw (clock-alert (r .timeTrackers) (s .«time_max_forward_jump_s») (addressOf (f .«src_mac»)) (goosePair f), goose-replay (r .gooseSeq) f)
 
 module _ (s : Settings) where
   pub remembers-history : {b : ℕ} {v : Remembering} {l : RememberedLists} → Remembers b v l → (h : List Inspection) → b + length h < 2 ^ 32
-      → Remembers (b + length h) (nextAll s v h) (foldl (move s) l h)
+      → Remembers (b + length h) (nextAll s v h) (foldl (listsAfter s) l h)
   remembers-history {b} {v} {l} r [] w = subst (λ n. Remembers n v l) (omega arith) r
   remembers-history {b} {v} {l} r (x ∷ h) w =
-      subst (λ n. Remembers n (nextAll s (next s v x) h) (foldl (move s) (move s l x) h)) (omega arith)
+      subst (λ n. Remembers n (nextAll s (next s v x) h) (foldl (listsAfter s) (listsAfter s l x) h)) (omega arith)
       (remembers-history (remembers-next s r (omega arith) x) h (omega arith))
 
   pub answers-lists : {b : ℕ} {v : Remembering} {l : RememberedLists} → Remembers b v l → (further : List Inspection) → b + length further < 2 ^ 32
       → answersFrom s v further ≡ listAnswers s l further
   answers-lists r [] w = refl
-  answers-lists r (x ∷ further) w = rw (findings-found s r x, answers-lists (remembers-next s r (omega arith) x) further (omega arith))
+  answers-lists r (x ∷ further) w = rw (findings-listFindings s r x, answers-lists (remembers-next s r (omega arith) x) further (omega arith))
 
 abbrev pub newRemembering : Remembering
-newRemembering = record { svs = noSvStreams; gooses = noGooseStreams; times = noClocks }
+newRemembering = record { svSeq = noSvStreams; gooseSeq = noGooseStreams; timeTrackers = noClocks }
 
 pub remembers-new : Remembers 0 newRemembering noLists
 unfolding noUse
 remembers-new = record {
-  svs = record { represents = represents-new svTable noSvStreams (kept-none, record { size = refl }) refl; ticks = omega arith };
-  gooses = record {
+  svSeq = record { represents = represents-new svTable noSvStreams (kept-none, record { size = refl }) refl; ticks = omega arith };
+  gooseSeq = record {
     timed = [];
     used = record { represents = represents-new gooseTable noGooseStreams (record { size = refl }, record { size = refl }, record { size = refl }, record { size = refl }, record { size = refl }) refl; ticks = omega arith };
     numbers = refl;
   };
-  times = record { represents = represents-new clockTable noClocks (record { size = refl }, record { size = refl }, record { size = refl }) refl; ticks = omega arith };
+  timeTrackers = record { represents = represents-new clockTable noClocks (record { size = refl }, record { size = refl }, record { size = refl }) refl; ticks = omega arith };
 }

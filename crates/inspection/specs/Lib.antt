@@ -16,4 +16,5 @@ pub mod InspectGoose
 pub mod InspectSv
 pub mod Calls
 pub mod Demand3
+pub mod Demand3Mixed
 pub mod Points
