@@ -255,10 +255,10 @@ module _ (s : Settings) {b : ℕ} {v : Remembering} {l : RememberedLists} (r : R
         timeTrackers = clock-next (r .timeTrackers) (s .«time_max_forward_jump_s») (addressOf (f .«src_mac»)) (goosePair f) w;
       }
 
-  findings-found : (x : Inspection) → findings s v x ≡ listFindings s l x
-  findings-found (sv f) =
+  findings-lists : (x : Inspection) → findings s v x ≡ listFindings s l x
+  findings-lists (sv f) =
       rw (clock-alert (r .timeTrackers) (s .«time_max_forward_jump_s») (addressOf (f .«src_mac»)) (svPair f), sv-outcome (r .svSeq) f)
-  findings-found (goose f) =
+  findings-lists (goose f) =
       rw (clock-alert (r .timeTrackers) (s .«time_max_forward_jump_s») (addressOf (f .«src_mac»)) (goosePair f), goose-replay (r .gooseSeq) f)
 
 module _ (s : Settings) where
@@ -272,7 +272,7 @@ module _ (s : Settings) where
   pub answers-lists : {b : ℕ} {v : Remembering} {l : RememberedLists} → Remembers b v l → (further : List Inspection) → b + length further < 2 ^ 32
       → answersFrom s v further ≡ listAnswers s l further
   answers-lists r [] w = refl
-  answers-lists r (x ∷ further) w = rw (findings-listFindings s r x, answers-lists (remembers-next s r (omega arith) x) further (omega arith))
+  answers-lists r (x ∷ further) w = rw (findings-lists s r x, answers-lists (remembers-next s r (omega arith) x) further (omega arith))
 
 abbrev pub newRemembering : Remembering
 newRemembering = record { svSeq = noSvStreams; gooseSeq = noGooseStreams; timeTrackers = noClocks }
