@@ -6,13 +6,14 @@ use mathlib.Core.Path.{_≡_, refl, ap}
 use native.Mathlib.Decide.{ℕ-discrete, decLt}
 use native.Mathlib.Omega.{arith}
 use lib.ListN.{length, getD, replicate, length-append, length-replicate}
+use Rattle.records.specs.declared.frame.GooseFrame.{GooseFrame}
 use Rattle.records.specs.declared.frame.SvFrame.{SvFrame}
 use Rattle.records.specs.Decide.{decidePair, decideList}
-use Rattle.records.specs.Legal.{LegalSv, OctetArray}
+use Rattle.records.specs.Legal.{LegalGoose, LegalSv, OctetArray}
 use Rattle.records.specs.Name.{octetAt, padded, tabulate}
 use Rattle.inspection.specs.declared.settings.Settings.{Settings}
 use Rattle.inspection.specs.Calls.{Setting, blockTest, maxSmpCntGap, maxForwardJump, newMmsRule, configuredMonitor}
-use Rattle.inspection.specs.Demand3.{Inspection, sv, Legal, rememberedLists, RememberedLists, Premises, Distinguished}
+use Rattle.inspection.specs.Demand3.{Inspection, goose, sv, Legal, rememberedLists, RememberedLists, Premises, Distinguished}
 use Rattle.inspection.specs.Monitor.{setBlockTestFrames, setSvMaxSmpCntGap, setTimeMaxForwardJump, addMmsRule}
 use Rattle.inspection.specs.Rules.{addAnswer}
 use Rattle.inspection.specs.SvSeq.{countOutcome, isReplay}
@@ -150,3 +151,72 @@ instance =
 instance-further : instance .further ≡ sv (frame 32 0 0 0) ∷ sv (frame 31 0 0 0) ∷ sv (frame 30 0 0 0) ∷ sv (frame 29 0 0 0) ∷ sv (frame 28 0 0 0) ∷ sv (frame 99 0 501 0) ∷ []
 unfolding instance demand-3 distinguished further-lists sv-further further-of made svInspection svFrameOf sv-separating padded tabulate distinguish-histories distinguish distinguishedFrom difference absent-key legal-counted legal counted streams frame decideList decidePair ℕ-discrete decLt countOutcome isReplay
 instance-further = refl
+
+-- ---- the smallest differences in the other two lists: a GOOSE stream against none, and a clock of (0, 1) against none
+
+gooseFrame : ℕ → GooseFrame
+gooseFrame state = record {
+  «src_mac» = replicate 6 0;
+  «go_cb_ref» = replicate 64 0;
+  «go_cb_ref_len» = 0;
+  «st_num» = state;
+  «sq_num» = 0;
+  test = false;
+  «timestamp_us» = 0;
+  «t_seconds_since_epoch» = 0;
+  «t_fraction_of_second» = 0;
+}
+
+legal-goose : LegalGoose (gooseFrame 1)
+unfolding gooseFrame
+legal-goose = record {
+  source = array-zeros 6;
+  control-block-octets = array-zeros 64;
+  control-block-length = omega arith;
+  state-number = omega arith;
+  sequence-number = omega arith;
+  time = omega arith;
+  seconds = omega arith;
+  fraction = omega arith;
+}
+
+goose-instance : Distinguished (configuredMonitor true settings) (goose (gooseFrame 1) ∷ []) []
+unfolding gooseFrame settings setTimeMaxForwardJump withMaxJump setSvMaxSmpCntGap withMaxGap setBlockTestFrames withBlockTest
+goose-instance =
+    demand-3 true settings (goose (gooseFrame 1) ∷ []) [] premises (legal-goose, tt) tt (omega arith) (omega arith) .1
+    (λ e. let z : _≡_ {A = ℕ} 1 0 = ap (λ (l : RememberedLists). length (l .gooseStreams)) e in omega arith)
+
+clockFrame : ℕ → SvFrame
+clockFrame fraction = record {
+  «src_mac» = replicate 6 0;
+  «svid_len» = 0;
+  svid = replicate 64 0;
+  «smp_cnt» = 0;
+  «smp_rate» = 0;
+  «dataset_ref_len» = 0;
+  «dataset_ref» = replicate 64 0;
+  «timestamp_us» = 0;
+  «t_seconds_since_epoch» = 0;
+  «t_fraction_of_second» = fraction;
+}
+
+legal-clock : (fraction : ℕ) → fraction < 4294967296 → LegalSv (clockFrame fraction)
+unfolding clockFrame
+legal-clock fraction h = record {
+  source = array-zeros 6;
+  svid-length = omega arith;
+  svid-octets = array-zeros 64;
+  count = omega arith;
+  rate = omega arith;
+  dataset-length = omega arith;
+  dataset-octets = array-zeros 64;
+  time = omega arith;
+  seconds = omega arith;
+  fraction = omega arith;
+}
+
+clock-instance : Distinguished (configuredMonitor true settings) (sv (clockFrame 1) ∷ []) (sv (clockFrame 0) ∷ [])
+unfolding clockFrame hasClock
+clock-instance =
+    demand-3 true settings (sv (clockFrame 1) ∷ []) (sv (clockFrame 0) ∷ []) premises (legal-clock 1 (omega arith), tt) (legal-clock 0 (omega arith), tt) (omega arith) (omega arith) .1
+    (λ e. let z : _≡_ {A = ℕ} 1 0 = ap (λ (l : RememberedLists). length (l .clocks)) e in omega arith)
