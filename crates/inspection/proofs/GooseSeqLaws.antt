@@ -1,6 +1,6 @@
--- Laws of GOOSE streams: a slot's key compared, the ways that a plan and a look-up go, and a plan carried out.
-use mathlib.Core.Path.{_≡_, refl}
-use mathlib.Core.Bool.{Bool, true, false, _&&_}
+-- Laws of GOOSE streams: the ways that a plan and a look-up go, and a plan carried out.
+use mathlib.Core.Path.{_≡_, refl, _∙_}
+use mathlib.Core.Bool.{Bool, true, false}
 use Prim.Native.Nat.{ℕ, _<_}
 use lib.ListN.{set}
 use Rattle.records.specs.declared.ageing.Ageing.{Ageing}
@@ -8,55 +8,46 @@ use Rattle.records.specs.declared.ageing.EqualAges.the-variants.{First}
 use Rattle.records.specs.declared.schedule.RetxSchedule.{RetxSchedule}
 use Rattle.records.specs.declared.search.Found.{Found}
 use Rattle.records.specs.declared.search.Found.the-variants.{At, Nothing}
-use Rattle.records.specs.Ageing.{newSlot, usedAt}
+use Rattle.records.specs.Ageing.{nextTick, slotFor, usedAt}
 use Rattle.records.specs.Table.{slotOf, valueAt}
+use Rattle.records.proofs.Booleans.{answered}
+use Rattle.records.proofs.TableLaws.{new-slot-is, target-below}
 use Rattle.inspection.specs.declared.goose_seq.GooseSeqTable.{GooseSeqTable}
 use Rattle.inspection.specs.declared.goose_seq.GoosePlan.{GoosePlan}
 use Rattle.inspection.specs.GooseSeq.{gooseStreams, replays, retransmission, outsideTolerance, retxChecked, gooseChecked, goosePlanOf, goosePlan}
-use Rattle.records.proofs.TableLaws.{target-below}
-
--- a slot in use with a key of two parts
-module _ (active first second : Bool) where
-  pub key-same : active ≡ true → first ≡ true → second ≡ true → active && (first && second) ≡ true
-  key-same a f s = rw (a, f, s)
-
-  pub key-second-differs : active ≡ true → first ≡ true → second ≡ false → active && (first && second) ≡ false
-  key-second-differs a f s = rw (a, f, s)
-
-  pub key-first-differs : active ≡ true → first ≡ false → active && (first && second) ≡ false
-  key-first-differs a f = rw (a, f)
 
 module _ (t : GooseSeqTable) (key : ℕ × ℕ) (new : (ℕ × ℕ) × ℕ) where
-  -- a new key
-  pub plan-new : {s : ℕ} → slotOf gooseStreams t key ≡ Nothing → s ≡ newSlot First (t .ageing) → goosePlanOf s false new ≡ goosePlan t key new
-  unfolding goosePlan
-  plan-new e q = rw (e, q)
+  module _ {f : Found} (s : f ≡ slotOf gooseStreams t key) where
+    -- a new key
+    module _ (e : f ≡ Nothing) where
+      pub plan-new :
+          {tick slot : ℕ} {p : GoosePlan} → tick ≡ nextTick (t .ageing .tick)
+          → slot ≡ slotFor First tick (t .ageing .active) (t .ageing .«last_used») → p ≡ goosePlanOf slot false new → p ≡ goosePlan t key new
+      unfolding goosePlan
+      plan-new n g q = q ∙ rw (answered s e, new-slot-is First (t .ageing) n g)
 
-  -- a known one, found in slot i
-  module _ {i : ℕ} (e : slotOf gooseStreams t key ≡ At i) where
-    pub plan-replay : replays (gooseStreams .value t i .0) (new .0) ≡ true → goosePlanOf i true (gooseStreams .value t i) ≡ goosePlan t key new
-    unfolding goosePlan
-    plan-replay r = rw (e, r)
+      pub retx-unknown : (enforce : Bool) (schedule : RetxSchedule) → false ≡ retxChecked enforce schedule t key new
+      unfolding retxChecked
+      retx-unknown enforce schedule = rw (answered s e)
 
-    pub plan-advances : replays (gooseStreams .value t i .0) (new .0) ≡ false → goosePlanOf i false new ≡ goosePlan t key new
-    unfolding goosePlan
-    plan-advances r = rw (e, r)
+    -- a known one, found in slot i
+    module _ {i : ℕ} (e : f ≡ At i) where
+      module _ {r : Bool} {p : GoosePlan} (q : r ≡ replays (gooseStreams .value t i .0) (new .0)) where
+        pub plan-replay : r ≡ true → p ≡ goosePlanOf i true (gooseStreams .value t i) → p ≡ goosePlan t key new
+        unfolding goosePlan
+        plan-replay v h = h ∙ rw (answered s e, answered q v)
 
-    pub retx-known :
-        (enforce : Bool) (schedule : RetxSchedule) → enforce ≡ true
-        → outsideTolerance schedule (gooseStreams .value t i) new ≡ retxChecked enforce schedule t key new
-    unfolding retxChecked
-    retx-known enforce schedule h = rw (e, h)
+        pub plan-advances : r ≡ false → p ≡ goosePlanOf i false new → p ≡ goosePlan t key new
+        unfolding goosePlan
+        plan-advances v h = h ∙ rw (answered s e, answered q v)
 
-  pub retx-unknown :
-      (enforce : Bool) (schedule : RetxSchedule) → slotOf gooseStreams t key ≡ Nothing
-      → false ≡ retxChecked enforce schedule t key new
-  unfolding retxChecked
-  retx-unknown enforce schedule e = rw e
+      pub retx-known :
+          (enforce : Bool) (schedule : RetxSchedule) {r : Bool} → enforce ≡ true → r ≡ outsideTolerance schedule (gooseStreams .value t i) new
+          → r ≡ retxChecked enforce schedule t key new
+      unfolding retxChecked
+      retx-known enforce schedule h q = q ∙ rw (answered s e, h)
 
-  pub retx-not-enforced :
-      (enforce : Bool) (schedule : RetxSchedule) → enforce ≡ false
-      → false ≡ retxChecked enforce schedule t key new
+  pub retx-not-enforced : (enforce : Bool) (schedule : RetxSchedule) → enforce ≡ false → false ≡ retxChecked enforce schedule t key new
   unfolding retxChecked
   retx-not-enforced enforce schedule h = rw h (go (slotOf gooseStreams t key))
     where
@@ -64,9 +55,9 @@ module _ (t : GooseSeqTable) (key : ℕ × ℕ) (new : (ℕ × ℕ) × ℕ) wher
       go (At i) = refl
       go Nothing = refl
 
-  pub plan-below : goosePlan t key new .slot < 16
+  pub plan-below : {p : GoosePlan} → p ≡ goosePlan t key new → p .slot < 16
   unfolding goosePlan
-  plan-below = target-below gooseStreams First t key
+  plan-below e = rw e (target-below gooseStreams First t key)
 
 -- a plan carried out
 pub plan-carried-out :

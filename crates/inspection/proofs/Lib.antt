@@ -1,5 +1,7 @@
 pub mod AddressLaws
 pub mod OutcomeLaws
+pub mod RateLaws
+pub mod TimeFieldLaws
 pub mod SvSeqLaws
 pub mod GooseSeqLaws
 pub mod SvPublisherLaws

@@ -2,7 +2,7 @@
 use Prim.Native.Nat.{ℕ, _+_, _≤_, _<_}
 use mathlib.Core.Bool.{Bool, true, false, _&&_, not}
 use mathlib.Core.List.{List}
-use mathlib.Core.Path.{_≡_, ap, sym, _∙_, subst}
+use mathlib.Core.Path.{_≡_, refl, ap, sym, _∙_}
 use native.Mathlib.Numerals.{add-one}
 use native.Mathlib.Omega.{arith}
 use borrow.Author.Tests.{le-ltb, eq-eqb, ne-eqb}
@@ -15,41 +15,33 @@ use Rattle.records.specs.declared.search.Found.the-variants.{At, Nothing}
 use Rattle.records.specs.Ageing.{firstFree}
 use Rattle.records.specs.Name.{validLen, nameOf, padded, sameName, sameOctets, nameStored}
 use Rattle.records.specs.Search.{first}
-use Rattle.records.proofs.Booleans.{and-false, cond-yes, cond-no}
-use Rattle.records.proofs.NameLaws.{length-name, padded-name}
-use Rattle.records.proofs.SearchLaws.{Searched, hit, miss, searched}
+use Rattle.records.proofs.Booleans.{and-false, cond-yes, cond-no, answered}
+use Rattle.records.proofs.NameLaws.{kept-len, kept-octets}
+use Rattle.records.proofs.TableLaws.{found-below}
 use Rattle.inspection.specs.declared.reservation.CbReservations.{CbReservations}
 use Rattle.inspection.specs.Reservation.{sameKind, reservesAt, reserves, ownedBy, reservationOf, takenAt, placeOr, reservedAt, reserved, freedBelow, withActive, freedAt, released, boundTo, usedBy, cbChecked}
 
 -- ---- the test of a slot
 
--- a conjunction by its first half, whose answer s is known
-pub and-no : {a s : Bool} (b : Bool) → s ≡ a → s ≡ false → a && b ≡ false
-and-no b e h = rw (sym e ∙ h)
-
-pub and-yes : {a b c s : Bool} → s ≡ a → s ≡ true → b ≡ c → a && b ≡ c
-and-yes e h k = rw (sym e ∙ h) k
-
 module _ (octets lens : List ℕ) (kinds active : List Bool) (name : List ℕ) (len : ℕ) (isGoose : Bool) (slot : ℕ) where
   -- a slot of 16 or more holds none
-  pub reserves-past : 16 ≤ slot → reservesAt octets lens kinds active name len isGoose slot ≡ false
+  pub reserves-past : 16 ≤ slot → false ≡ reservesAt octets lens kinds active name len isGoose slot
   unfolding reservesAt sameName sameOctets
   reserves-past h =
-      rw (le-ltb slot 16 h, and-false (eqb (getD lens slot 0) len)) (and-false (getD active slot false && sameKind (getD kinds slot false) isGoose))
+      rw (le-ltb slot 16 h, and-false (eqb (getD lens slot 0) len)) (sym (and-false (getD active slot false && sameKind (getD kinds slot false) isGoose)))
 
-  pub reserves-unused : getD active slot false ≡ false → reservesAt octets lens kinds active name len isGoose slot ≡ false
+  pub reserves-unused : getD active slot false ≡ false → false ≡ reservesAt octets lens kinds active name len isGoose slot
   unfolding reservesAt
   reserves-unused e = rw e
 
-  pub reserves-other : getD active slot false ≡ true → sameKind (getD kinds slot false) isGoose ≡ false → reservesAt octets lens kinds active name len isGoose slot ≡ false
-  unfolding reservesAt
-  reserves-other e k = rw (e, k)
+  module _ {same : Bool} (e : getD active slot false ≡ true) (k : same ≡ sameKind (getD kinds slot false) isGoose) where
+    pub reserves-other : same ≡ false → false ≡ reservesAt octets lens kinds active name len isGoose slot
+    unfolding reservesAt
+    reserves-other v = rw (e, answered k v)
 
-  pub reserves-named :
-      getD active slot false ≡ true → sameKind (getD kinds slot false) isGoose ≡ true
-      → reservesAt octets lens kinds active name len isGoose slot ≡ sameName octets lens slot name len
-  unfolding reservesAt
-  reserves-named e k = rw (e, k)
+    pub reserves-named : {r : Bool} → same ≡ true → r ≡ sameName octets lens slot name len → r ≡ reservesAt octets lens kinds active name len isGoose slot
+    unfolding reservesAt
+    reserves-named v h = h ∙ rw (e, answered k v)
 
 -- ---- a client's slots
 
@@ -62,42 +54,25 @@ module _ (test : ℕ → Bool) (active : List Bool) (i : ℕ) {now : List Bool} 
   unfolding freedBelow
   freed-none h o = o ∙ e ∙ rw (add-one, h)
 
--- ---- a slot that was found is one of sixteen
-
-abbrev Below : Found → Type 0
-Below (At i) = i < 16
-Below Nothing = Unit {0}
-
-searched-below : {test : ℕ → Bool} {f : Found} → Searched test 0 16 f → Below f
-searched-below (hit s h p) = omega arith
-searched-below (miss g) = tt
-
-pub found-below : (test : ℕ → Bool) {f : Found} {i : ℕ} → f ≡ first test → f ≡ At i → i < 16
-found-below test e a = subst Below (sym e ∙ a) (searched-below (searched test 0 16))
+-- ---- the slot that a SelectControl takes is one of sixteen
 
 pub place-below : (test : ℕ → Bool) (active : List Bool) {f : Found} {i : ℕ} → f ≡ placeOr (first test) (firstFree active) → f ≡ At i → i < 16
 unfolding firstFree
-place-below test active e a = subst Below (sym e ∙ a) (go (first test) (searched-below (searched test 0 16)))
+place-below test active e a = go (first test) (λ i. found-below test refl) (answered e a)
   where
-    go : (f : Found) → Below f → Below (placeOr f (firstFree active))
-    go (At j) b = b
-    go Nothing b = searched-below (searched _ 0 16)
+    go : (f : Found) → ((i : ℕ) → f ≡ At i → i < 16) → {i : ℕ} → placeOr f (firstFree active) ≡ At i → i < 16
+    go (At j) b = b _
+    go Nothing b = found-below _ refl
 
 -- ---- the ways out of the three changes, the name that a frame states being kept as these octets and this length
 
 module _ (r : CbReservations) (octets : List ℕ) (stated : ℕ) (size : length octets ≡ 64) (isGoose : Bool) {name : List ℕ} {len : ℕ}
     (n : len ≡ validLen stated) (p : name ≡ padded octets len) where
-  key-octets : padded (nameOf octets stated) (length (nameOf octets stated)) ≡ name
-  key-octets = padded-name octets stated size ∙ ap (λ (k : ℕ). padded octets k) (sym n) ∙ sym p
-
-  key-len : length (nameOf octets stated) ≡ len
-  key-len = length-name octets stated size ∙ sym n
-
   abbrev holds : ℕ → Bool
   holds = reservesAt (r .«cb_ref» .octets) (r .«cb_ref» .lens) (r .«is_goose») (r .active) name len isGoose
 
   same-holds : reserves r (nameOf octets stated) isGoose ≡ holds
-  same-holds = rw (key-octets, key-len)
+  same-holds = rw (← kept-octets octets stated size n p, ← kept-len octets stated size n p)
 
   same-place : reservationOf r (nameOf octets stated) isGoose ≡ first holds
   unfolding reservationOf
@@ -130,7 +105,7 @@ module _ (r : CbReservations) (octets : List ℕ) (stated : ℕ) (size : length 
         ≡ reserved r (nameOf octets stated) isGoose client
     unfolding takenAt
     reserved-at {i} a q =
-        let names = q ∙ (λ k. nameStored (r .«cb_ref») i (sym key-octets k) (sym key-len k)) in
+        let names = q ∙ (λ k. nameStored (r .«cb_ref») i (kept-octets octets stated size n p k) (kept-len octets stated size n p k)) in
         (λ k. record {
           table = record {
             «cb_ref» = names k;
@@ -150,7 +125,7 @@ module _ (r : CbReservations) (octets : List ℕ) (stated : ℕ) (size : length 
       (client : ℕ) {active : List Bool} → len ≡ 0 → active ≡ freedBelow (ownedBy r client) (r .active) 16
       → withActive r active ≡ released r (nameOf octets stated) isGoose client
   unfolding released
-  released-all client z a = (λ k. withActive r (a k)) ∙ sym (cond-yes _ _ (eq-eqb (length (nameOf octets stated)) 0 (key-len ∙ z)))
+  released-all client z a = (λ k. withActive r (a k)) ∙ sym (cond-yes _ _ (eq-eqb (length (nameOf octets stated)) 0 (answered (kept-len octets stated size n p) z)))
 
   pub released-found :
       (client : ℕ) {f g : Found} → (len ≡ 0 → ⊥) → f ≡ first (λ i. holds i && ownedBy r client i) → f ≡ g
@@ -158,19 +133,19 @@ module _ (r : CbReservations) (octets : List ℕ) (stated : ℕ) (size : length 
   unfolding released
   released-found client z e a =
       ap (λ (x : Found). freedAt r x) (sym a ∙ e ∙ sym (ap (λ (t : ℕ → Bool). first (λ i. t i && ownedBy r client i)) same-holds))
-      ∙ sym (cond-no _ _ (ne-eqb (length (nameOf octets stated)) 0 (λ q. z (sym key-len ∙ q))))
+      ∙ sym (cond-no _ _ (ne-eqb (length (nameOf octets stated)) 0 (λ q. z (kept-len octets stated size n p ∙ q))))
 
   -- the use by a frame
   pub checked-empty : (address : ℕ) → len ≡ 0 → record { table = r; hijack = false } ≡ cbChecked r (nameOf octets stated) isGoose address
   unfolding cbChecked
-  checked-empty address z = sym (cond-yes _ _ (eq-eqb (length (nameOf octets stated)) 0 (key-len ∙ z)))
+  checked-empty address z = sym (cond-yes _ _ (eq-eqb (length (nameOf octets stated)) 0 (answered (kept-len octets stated size n p) z)))
 
   pub checked-found :
       (address : ℕ) {f : Found} → (len ≡ 0 → ⊥) → f ≡ first holds → usedBy r address f ≡ cbChecked r (nameOf octets stated) isGoose address
   unfolding cbChecked
   checked-found address z e =
       ap (λ (x : Found). usedBy r address x) (e ∙ sym same-place)
-      ∙ sym (cond-no _ _ (ne-eqb (length (nameOf octets stated)) 0 (λ q. z (sym key-len ∙ q))))
+      ∙ sym (cond-no _ _ (ne-eqb (length (nameOf octets stated)) 0 (λ q. z (kept-len octets stated size n p ∙ q))))
 
 -- ---- the use of a slot by an address
 

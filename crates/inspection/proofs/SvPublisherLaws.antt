@@ -1,11 +1,12 @@
 -- Laws of what rules tell of an svID and an address: whether one has the svID, and the last place that has the address too.
 use Prim.Native.Nat.{ℕ, _+_}
 use mathlib.Core.Bool.{Bool, true, false, _&&_}
-use mathlib.Core.Path.{_≡_, refl, sym, _∙_}
+use mathlib.Core.Path.{_≡_, refl, _∙_}
 use native.Mathlib.Numerals.{add-one}
 use Rattle.records.specs.declared.search.Found.{Found}
 use Rattle.records.specs.declared.search.Found.the-variants.{At, Nothing}
 use Rattle.records.specs.Search.{lastBelow, isFound}
+use Rattle.records.proofs.Booleans.{answered}
 use Rattle.inspection.specs.SvPublisher.{matchAt}
 
 module _ (named addressed : ℕ → Bool) where
@@ -22,15 +23,15 @@ module _ (named addressed : ℕ → Bool) where
       {r : Bool} {p : Found} where
     pub told-fits : same ≡ true → addressed i ≡ true → r ≡ true → p ≡ At i → Told (i + 1) r p
     unfolding lastBelow
-    told-fits n a e f = record { registered-is = e ∙ rw (add-one, sym s ∙ n); place-is = f ∙ rw (add-one, sym s ∙ n, a) }
+    told-fits n a e f = record { registered-is = e ∙ rw (add-one, answered s n); place-is = f ∙ rw (add-one, answered s n, a) }
 
     pub told-wrong : same ≡ true → addressed i ≡ false → r ≡ true → p ≡ place → Told (i + 1) r p
     unfolding lastBelow
-    told-wrong n a e f = record { registered-is = e ∙ rw (add-one, sym s ∙ n); place-is = f ∙ t .place-is ∙ rw (add-one, sym s ∙ n, a) }
+    told-wrong n a e f = record { registered-is = e ∙ rw (add-one, answered s n); place-is = f ∙ t .place-is ∙ rw (add-one, answered s n, a) }
 
     pub told-other : same ≡ false → r ≡ registered → p ≡ place → Told (i + 1) r p
     unfolding lastBelow
-    told-other n e f = record { registered-is = e ∙ t .registered-is ∙ rw (add-one, sym s ∙ n); place-is = f ∙ t .place-is ∙ rw (add-one, sym s ∙ n) }
+    told-other n e f = record { registered-is = e ∙ t .registered-is ∙ rw (add-one, answered s n); place-is = f ∙ t .place-is ∙ rw (add-one, answered s n) }
 
   -- what all n rules tell
   pub told-all :

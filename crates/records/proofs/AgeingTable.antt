@@ -1,9 +1,9 @@
 -- A table of slots and ticks, as long as its tick has not wrapped, represents the list of its entries by last use: what its history leaves remembered.
 use Prim.Native.Nat.{ℕ, suc, _+_, _<_, _^_, zero-le}
-use mathlib.Core.Bool.{Bool, true, false, _&&_, true≢false}
+use mathlib.Core.Bool.{true, _&&_, true≢false}
 use mathlib.Core.List.{List, [], _∷_, foldl, reverse}
 use mathlib.Core.Logic.{_≢_, _↔_}
-use mathlib.Core.Option.{Option, none, some}
+use mathlib.Core.Option.{some}
 use mathlib.Core.Path.{_≡_, refl, sym, ap, _∙_}
 use native.Mathlib.Decide.{ℕ-discrete}
 use native.Mathlib.Omega.{arith}
@@ -19,7 +19,7 @@ use Rattle.records.specs.declared.search.Found.the-variants.{At, Nothing
 use Rattle.records.specs.declared.ageing.Ageing.{Ageing}
 use Rattle.records.specs.declared.ageing.EqualAges.{EqualAges}
 use Rattle.records.specs.Ageing.{newSlot, noUse, usedAt}
-use Rattle.records.specs.Remembered.{lookup, without, after, remembered}
+use Rattle.records.specs.Remembered.{lookup, without, remembered}
 use Rattle.records.specs.Search.{slotOr}
 use Rattle.records.specs.Table.{inUse, Columns, slotOf, valueAt, valueOf, target, stepped}
 

@@ -168,6 +168,14 @@ module _ (octets : List ℕ) (len : ℕ) (size : length octets ≡ 64) where
       go k (yes l) = rw (lt-ltb k (validLen len) l) (getD-take (validLen len) octets k 0 l)
       go k (no l) = rw (le-ltb k (validLen len) (omega arith))
 
+  -- kept as these octets and this length
+  module _ {kept : List ℕ} {n : ℕ} (l : n ≡ validLen len) (p : kept ≡ padded octets n) where
+    pub kept-len : n ≡ length (nameOf octets len)
+    kept-len = l ∙ sym length-name
+
+    pub kept-octets : kept ≡ padded (nameOf octets len) (length (nameOf octets len))
+    kept-octets = p ∙ ap (padded octets) l ∙ sym padded-name
+
 -- and a name of at most 64 octets is what its padded octets state
 pub name-padded : (name : List ℕ) → length name ≤ 64 → nameOf (padded name (length name)) (length name) ≡ name
 name-padded name h =

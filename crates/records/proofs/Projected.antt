@@ -3,7 +3,7 @@ use Prim.Native.Nat.{ℕ, zero, suc}
 use mathlib.Core.List.{List, [], _∷_, map}
 use mathlib.Core.Logic.{by-cases, if-pos, if-neg}
 use mathlib.Core.Option.{Option, none, some}
-use mathlib.Core.Path.{_≡_, refl, ap, _∙_}
+use mathlib.Core.Path.{_≡_, refl, ap}
 use lib.ListN.{take}
 use Rattle.records.proofs.ByLastUse.{touch}
 use Rattle.records.specs.Remembered.{lookup, without, after}

@@ -4,24 +4,35 @@ use mathlib.Core.Bool.{Bool, true, false, cond}
 use mathlib.Core.Logic.{by-cases}
 use mathlib.Core.Path.{_≡_, refl}
 use native.Mathlib.Decide.{ℕ-discrete}
-use native.Mathlib.Numerals.{add-one}
+use native.Mathlib.Numerals.{add-one, unary-clauses}
 use native.Mathlib.Omega.{arith}
 use Rattle.records.specs.declared.search.Found.{Found}
 use Rattle.records.specs.declared.search.Found.the-variants.{At, Nothing}
 use Rattle.records.specs.Search.{firstFrom}
 
-module _ (test : ℕ → Bool) (i n : ℕ) where
-  pub first-hit : i < n → test i ≡ true → firstFrom test i (n - i) ≡ At i
-  unfolding firstFrom
-  first-hit h e = let m : n - i ≡ suc (n - (i + 1)) = omega arith in rw (m, e)
+-- a search for the first of n slots has reached slot i: the rest of it answers as the whole
+pub record Reached (test : ℕ → Bool) (n i : ℕ) : Type 0 where
+  pub rest : firstFrom test i (n - i) ≡ firstFrom test 0 n
 
-  pub first-miss : i < n → test i ≡ false → firstFrom test i (n - i) ≡ firstFrom test (i + 1) (n - (i + 1))
-  unfolding firstFrom
-  first-miss h e = let m : n - i ≡ suc (n - (i + 1)) = omega arith in rw (m, e, add-one)
+pub reached-first : {test : ℕ → Bool} {n : ℕ} → Reached test n 0
+reached-first = record { rest = simp unary-clauses refl }
 
-  pub first-none : n ≤ i → firstFrom test i (n - i) ≡ Nothing
+module _ {test : ℕ → Bool} {n i : ℕ} (r : Reached test n i) where
+  pub reached-end : n ≤ i → Nothing ≡ firstFrom test 0 n
   unfolding firstFrom
-  first-none h = let m : n - i ≡ 0 = omega arith in rw m
+  reached-end h = let m : n - i ≡ 0 = omega arith in rw m at (r .rest)
+
+  -- the answer of the test at slot i
+  module _ {answer : Bool} (h : i < n) (e : answer ≡ test i) where
+    here : cond answer (At i) (firstFrom test (i + 1) (n - (i + 1))) ≡ firstFrom test 0 n
+    unfolding firstFrom
+    here = let m : n - i ≡ suc (n - suc i) = omega arith in rw (e, add-one) (rw m at (r .rest))
+
+    pub reached-hit : answer ≡ true → At i ≡ firstFrom test 0 n
+    reached-hit a = rw a at here
+
+    pub reached-next : answer ≡ false → Reached test n (i + 1)
+    reached-next a = record { rest = rw a at here }
 
 -- what the answer tells of the n slots from i on
 pub data Searched (test : ℕ → Bool) (i n : ℕ) : Found → Type 0 where

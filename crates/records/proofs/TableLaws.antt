@@ -2,10 +2,11 @@
 use Prim.Native.Nat.{ℕ, _<_}
 use mathlib.Core.Bool.{Bool, true, false, _&&_, not, false≢true}
 use mathlib.Core.Option.{none, some}
-use mathlib.Core.Path.{_≡_, sym, _∙_, ap}
+use mathlib.Core.Path.{_≡_, _∙_, ap}
 use native.Mathlib.Omega.{arith}
 use lib.ListN.{getD}
 use Rattle.records.proofs.AgeingLaws.{oldest-is}
+use Rattle.records.proofs.Booleans.{answered}
 use Rattle.records.proofs.SearchLaws.{Searched, hit, miss, searched}
 use Rattle.records.specs.declared.search.Found.{Found}
 use Rattle.records.specs.declared.search.Found.the-variants.{At, Nothing}
@@ -17,8 +18,8 @@ use Rattle.records.specs.Table.{Columns, inUse, slotOf, valueAt, valueOf
 
 -- the slot that a search finds is one of the sixteen, and passes the test
 module _ (test : ℕ → Bool) where
-  pub found-below : {i : ℕ} → first test ≡ At i → i < 16
-  found-below = go (searched test 0 16)
+  pub found-below : {f : Found} {i : ℕ} → f ≡ first test → f ≡ At i → i < 16
+  found-below s e = go (searched test 0 16) (answered s e)
     where
       go : {f : Found} {i : ℕ} → Searched test 0 16 f → f ≡ At i → i < 16
       go {i = i} (hit s h p) e = let same : s ≡ i = ap (slotOr 0) e in omega arith
@@ -51,21 +52,28 @@ pub target-below : {T K W : Type 0} (C : Columns T K W) (rule : EqualAges) (t : 
 target-below C rule t k =
     found-or-below (λ i. inUse (C .ageing t) i && C .matches t k i) (newSlot rule (C .ageing t)) (new-slot-below rule (C .ageing t))
 
-module _ {T K W : Type 0} (C : Columns T K W) (t : T) (k : K) where
-  -- a key that has a slot
-  module _ {i : ℕ} (e : slotOf C t k ≡ At i) where
-    pub target-found : (rule : EqualAges) → target C rule t k ≡ i
-    target-found rule = ap (slotOr (newSlot rule (C .ageing t))) e
+-- the slot that a new key takes, found at the next tick
+pub new-slot-is :
+    (rule : EqualAges) (a : Ageing) {tick slot : ℕ} → tick ≡ nextTick (a .tick) → slot ≡ slotFor rule tick (a .active) (a .«last_used»)
+    → slot ≡ newSlot rule a
+new-slot-is rule a n s = s ∙ ap (λ tick. slotFor rule tick (a .active) (a .«last_used»)) n
 
-    pub value-found : valueOf C t k ≡ some (C .value t i)
-    value-found = ap (valueAt C t) e
+-- what a search for a key tells
+module _ {T K W : Type 0} (C : Columns T K W) (t : T) (k : K) {f : Found} (s : f ≡ slotOf C t k) where
+  -- a key that has a slot
+  module _ {i : ℕ} (e : f ≡ At i) where
+    pub target-found : (rule : EqualAges) → i ≡ target C rule t k
+    target-found rule = ap (slotOr (newSlot rule (C .ageing t))) (answered e s)
+
+    pub value-found : some (C .value t i) ≡ valueOf C t k
+    value-found = ap (valueAt C t) (answered e s)
 
   -- a new key
-  module _ (e : slotOf C t k ≡ Nothing) where
+  module _ (e : f ≡ Nothing) where
     pub target-new :
         (rule : EqualAges) {tick slot : ℕ} → tick ≡ nextTick (C .ageing t .tick)
-        → slot ≡ slotFor rule tick (C .ageing t .active) (C .ageing t .«last_used») → target C rule t k ≡ slot
-    target-new rule n s = ap (slotOr (newSlot rule (C .ageing t))) e ∙ sym (s ∙ ap (λ tick. slotFor rule tick (C .ageing t .active) (C .ageing t .«last_used»)) n)
+        → slot ≡ slotFor rule tick (C .ageing t .active) (C .ageing t .«last_used») → slot ≡ target C rule t k
+    target-new rule n g = new-slot-is rule (C .ageing t) n g ∙ ap (slotOr (newSlot rule (C .ageing t))) (answered e s)
 
-    pub value-new : valueOf C t k ≡ none
-    value-new = ap (valueAt C t) e
+    pub value-new : none ≡ valueOf C t k
+    value-new = ap (valueAt C t) (answered e s)

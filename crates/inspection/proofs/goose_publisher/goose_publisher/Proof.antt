@@ -1,21 +1,16 @@
--- `goose_publisher` meets its contract. The invariant: the search from place i on is the whole search.
-use mathlib.Core.Path.{_≡_, refl, sym, _∙_}
-use Prim.Native.Nat.{_≤_, _-_}
-use native.Mathlib.Numerals.{unary-clauses}
+-- `goose_publisher` meets its contract. The invariant: the search has reached place i of the n rules.
+use mathlib.Core.Path.{_≡_}
+use Prim.Native.Nat.{_-_}
 use native.Mathlib.Omega.{arith}
 use borrow.Author.Needs.{needs}
-use Rattle.records.specs.Search.{firstFrom}
-use Rattle.records.proofs.SearchLaws.{first-hit, first-miss, first-none}
-use Rattle.inspection.specs.Rules.{ruleCount}
+use Rattle.records.proofs.SearchLaws.{Reached, reached-first, reached-end, reached-hit, reached-next}
 use Rattle.inspection.specs.GoosePublisher.{gooseFitsAt}
+use Rattle.inspection.specs.Rules.{ruleCount}
 use Rattle.inspection.proofs.goose_publisher.goose_publisher.Statement.{statement}
 use Rattle.inspection.proofs.goose_publisher.goose_publisher.Tie as tie
 
 abbrev Inv-loop : tie.InvT-loop
-Inv-loop macs octets lens count mac name len n i₀ i =
-    (i ≤ n) × (n ≡ ruleCount count)
-    × (firstFrom (gooseFitsAt macs octets lens mac name len) 0 n
-    ≡ firstFrom (gooseFitsAt macs octets lens mac name len) i (n - i))
+Inv-loop macs octets lens count mac name len n i₀ i = (n ≡ ruleCount count) × Reached (gooseFitsAt macs octets lens mac name len) (ruleCount count) i
 
 abbrev μ-loop : tie.MeasureT-loop
 μ-loop macs octets lens count mac name len n i₀ i = n - i
@@ -24,7 +19,7 @@ rule-count-requires : tie.Need-rule-count-requires Inv-loop μ-loop
 rule-count-requires c κs = search needs
 
 loop-holds : tie.Need-loop-holds Inv-loop μ-loop
-loop-holds c = (omega arith, c .rule-count .ensures, simp unary-clauses refl)
+loop-holds c = (c .rule-count .ensures, reached-first)
 
 mul-rule-fits : tie.Need-mul-rule-fits Inv-loop μ-loop
 mul-rule-fits c = omega arith
@@ -47,19 +42,14 @@ loop-less c = omega arith
 loop-again : tie.Need-loop-again Inv-loop μ-loop
 unfolding gooseFitsAt
 loop-again c =
-    let l = c .before .before .before .before .before .loop in
-    (omega arith, l .inv .1, l .inv .2 ∙ first-miss _ _ _ (omega arith) (sym (c .before .rule-fits .ensures) ∙ c .if2 .left))
+    (c .before .before .before .before .before .loop .inv .0, reached-next (c .before .before .before .before .before .loop .inv .1) (omega arith) (c .before .rule-fits .ensures) (c .if2 .left))
 
 returns : tie.Need-returns Inv-loop μ-loop
-returns c =
-    let l = c .before .loop in
-    rw (← l .inv .1) (sym (l .inv .2 ∙ first-none _ _ _ (omega arith)))
+returns c = reached-end (c .before .loop .inv .1) (omega arith)
 
 returns-2 : tie.Need-returns-2 Inv-loop μ-loop
 unfolding gooseFitsAt
-returns-2 c =
-    let l = c .before .before .before .before .before .loop in
-    rw (← l .inv .1) (sym (l .inv .2 ∙ first-hit _ _ _ (omega arith) (sym (c .before .rule-fits .ensures) ∙ c .if2 .taken)))
+returns-2 c = reached-hit (c .before .before .before .before .before .loop .inv .1) (omega arith) (c .before .rule-fits .ensures) (c .if2 .taken)
 
 pub goose-publisher-spec : {M : Type 1} → statement M
 goose-publisher-spec =

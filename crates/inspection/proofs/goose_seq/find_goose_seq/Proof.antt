@@ -1,28 +1,24 @@
--- `find_goose_seq` meets its contract. The invariant: the search from slot i on is the whole search.
-use mathlib.Core.Path.{_≡_, refl, sym, _∙_}
+-- `find_goose_seq` meets its contract. The invariant: the search has reached slot i.
+use mathlib.Core.Path.{refl}
 use mathlib.Core.Bool.{false, _&&_}
 use mathlib.Core.Logic.{⊎-elim}
-use Prim.Native.Nat.{_≤_, _-_}
+use Prim.Native.Nat.{_-_}
 use native.Mathlib.Omega.{arith}
 use lib.Dec.{eqb}
 use lib.ListN.{getD}
-use Rattle.records.specs.Search.{first, firstFrom}
-use Rattle.records.proofs.SearchLaws.{first-hit, first-miss, first-none}
-use Rattle.inspection.proofs.GooseSeqLaws.{key-same, key-second-differs, key-first-differs}
+use Rattle.records.proofs.Booleans.{and-yes, and-no}
+use Rattle.records.proofs.SearchLaws.{Reached, reached-first, reached-end, reached-hit, reached-next}
 use Rattle.inspection.proofs.goose_seq.find_goose_seq.Statement.{statement}
 use Rattle.inspection.proofs.goose_seq.find_goose_seq.Tie as tie
 
 abbrev Inv-loop : tie.InvT-loop
-Inv-loop macs hashes active mac hash i₀ i =
-    (i ≤ 16)
-    × (first (λ j. getD active j false && (eqb (getD macs j 0) mac && eqb (getD hashes j 0) hash))
-    ≡ firstFrom (λ j. getD active j false && (eqb (getD macs j 0) mac && eqb (getD hashes j 0) hash)) i (16 - i))
+Inv-loop macs hashes active mac hash i₀ i = Reached (λ j. getD active j false && (eqb (getD macs j 0) mac && eqb (getD hashes j 0) hash)) 16 i
 
 abbrev μ-loop : tie.MeasureT-loop
 μ-loop macs hashes active mac hash i₀ i = 16 - i
 
 loop-holds : tie.Need-loop-holds Inv-loop μ-loop
-loop-holds c = (omega arith, refl)
+loop-holds c = reached-first
 
 element-copy-out-if2 : tie.Need-element-copy-out-if2 Inv-loop μ-loop
 element-copy-out-if2 c = omega arith
@@ -47,23 +43,17 @@ loop-less c = omega arith
 
 loop-again : tie.Need-loop-again Inv-loop μ-loop
 loop-again c =
-    let l = c .before .before .before .loop in (
-      omega arith,
-      l .inv .1
-          ∙ first-miss _ _ _ (omega arith)
-          (⊎-elim (λ w. key-second-differs _ _ _ (w .0 .taken) (w .2 .taken) (w .4 .left))
-          (⊎-elim (λ w. key-first-differs _ _ _ (w .0 .taken) (w .2 .left)) (λ w. rw (w .left))) (c .if2 .came)),
-    )
+    reached-next (c .before .before .before .loop .inv) (omega arith) refl
+    (⊎-elim (λ w. and-yes (w .0 .taken) (and-yes (w .2 .taken) (w .4 .left)))
+    (⊎-elim (λ w. and-yes (w .0 .taken) (and-no _ (w .2 .left))) (λ w. and-no _ (w .left))) (c .if2 .came))
 
 returns : tie.Need-returns Inv-loop μ-loop
-returns c = sym (c .before .loop .inv .1 ∙ first-none _ _ _ (omega arith))
+returns c = reached-end (c .before .loop .inv) (omega arith)
 
 returns-2 : tie.Need-returns-2 Inv-loop μ-loop
 returns-2 c =
-    let m = c .before .before in
-    let a = m .before .before in
-    sym (a .before .before .before .loop .inv .1
-    ∙ first-hit _ _ _ (omega arith) (key-same _ _ _ (a .if2 .taken) (m .if3 .taken) (c .if4 .taken)))
+    reached-hit (c .before .before .before .before .before .before .before .loop .inv) (omega arith) refl
+    (and-yes (c .before .before .before .before .if2 .taken) (and-yes (c .before .before .if3 .taken) (c .if4 .taken)))
 
 pub find-goose-seq-spec : {M : Type 1} → statement M
 find-goose-seq-spec =

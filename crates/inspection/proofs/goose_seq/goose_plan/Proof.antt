@@ -1,5 +1,4 @@
 -- `goose_plan` meets its contract.
-use mathlib.Core.Path.{sym, _∙_}
 use Prim.Native.Nat.{_<_}
 use native.Mathlib.Omega.{arith}
 use borrow.Author.Needs.{needs}
@@ -28,31 +27,30 @@ new-requires c κs = search needs
 
 returns : tie.Need-returns
 returns c =
-    let s = c .before in
-    let f = s .before .before in
-    c .new .ensures
-    ∙ plan-new _ _ _ (sym (f .before .before .find-goose-seq .ensures) ∙ f .enum-told .given .1) (s .slot-for .ensures ∙ rw (s .before .next-tick .ensures))
+    let f = c .before .before .before in
+    plan-new _ _ _ (f .before .before .find-goose-seq .ensures) (f .enum-told .given .1) (c .before .before .next-tick .ensures) (c .before .slot-for .ensures)
+    (c .new .ensures)
 
 slot-below : (c : tie.After-slot) → c .slot .given .0 .0 < 16
-slot-below c = found-below _ (sym (c .before .before .find-goose-seq .ensures) ∙ c .slot .given .1)
+slot-below c = found-below _ (c .before .before .find-goose-seq .ensures) (c .slot .given .1)
 
 mul-last-st : tie.Need-mul-last-st
 mul-last-st c = omega (arith, slot-below (c .before))
 
 element-copy-out-last-st : tie.Need-element-copy-out-last-st
-element-copy-out-last-st c = omega (arith, slot-below (c .before))
+element-copy-out-last-st c = slot-below (c .before)
 
 mul-last-sq : tie.Need-mul-last-sq
 mul-last-sq c = omega (arith, slot-below (c .before .before))
 
 element-copy-out-last-sq : tie.Need-element-copy-out-last-sq
-element-copy-out-last-sq c = omega (arith, slot-below (c .before .before))
+element-copy-out-last-sq c = slot-below (c .before .before)
 
 mul-last-seen : tie.Need-mul-last-seen
 mul-last-seen c = omega (arith, slot-below (c .before .before .before))
 
 element-copy-out-last-seen : tie.Need-element-copy-out-last-seen
-element-copy-out-last-seen c = omega (arith, slot-below (c .before .before .before))
+element-copy-out-last-seen c = slot-below (c .before .before .before)
 
 replays-requires : tie.Need-replays-requires
 replays-requires c κs = search needs
@@ -62,20 +60,18 @@ new-requires-2 c κs = search needs
 
 returns-2 : tie.Need-returns-2
 returns-2 c =
-    let r = c .before in
-    let f = r .before .before .before .before .before .before in
-    c .new2 .ensures
-    ∙ plan-replay _ _ _ (sym (f .before .before .find-goose-seq .ensures) ∙ f .slot .given .1) (sym (r .before .replays .ensures) ∙ r .if1 .taken)
+    let f = c .before .before .before .before .before .before .before in
+    plan-replay _ _ _ (f .before .before .find-goose-seq .ensures) (f .slot .given .1) (c .before .before .replays .ensures) (c .before .if1 .taken)
+    (c .new2 .ensures)
 
 new-requires-3 : tie.Need-new-requires-3
 new-requires-3 c κs = search needs
 
 returns-3 : tie.Need-returns-3
 returns-3 c =
-    let r = c .before in
-    let f = r .before .before .before .before .before .before in
-    c .new3 .ensures
-    ∙ plan-advances _ _ _ (sym (f .before .before .find-goose-seq .ensures) ∙ f .slot .given .1) (sym (r .before .replays .ensures) ∙ r .if1 .left)
+    let f = c .before .before .before .before .before .before .before in
+    plan-advances _ _ _ (f .before .before .find-goose-seq .ensures) (f .slot .given .1) (c .before .before .replays .ensures) (c .before .if1 .left)
+    (c .new3 .ensures)
 
 pub goose-plan-spec : {M : Type 1} → statement M
 goose-plan-spec =

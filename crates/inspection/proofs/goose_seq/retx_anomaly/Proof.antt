@@ -1,5 +1,4 @@
 -- `retx_anomaly` meets its contract.
-use mathlib.Core.Path.{sym, _∙_}
 use Prim.Native.Nat.{_<_}
 use native.Mathlib.Omega.{arith}
 use borrow.Author.Needs.{needs}
@@ -22,37 +21,36 @@ enum-told : tie.Need-enum-told
 enum-told c = search needs
 
 returns-2 : tie.Need-returns-2
-returns-2 c lastUsed tick = retx-unknown _ _ _ _ _ (sym (c .before .before .find-goose-seq .ensures) ∙ c .enum-told .given .1)
+returns-2 c lastUsed tick = retx-unknown _ _ _ (c .before .before .find-goose-seq .ensures) (c .enum-told .given .1) _ _
 
 slot-below : (c : tie.After-slot) → c .slot .given .0 .0 < 16
-slot-below c = found-below _ (sym (c .before .before .find-goose-seq .ensures) ∙ c .slot .given .1)
+slot-below c = found-below _ (c .before .before .find-goose-seq .ensures) (c .slot .given .1)
 
 mul-last-st : tie.Need-mul-last-st
 mul-last-st c = omega (arith, slot-below (c .before))
 
 element-copy-out-last-st : tie.Need-element-copy-out-last-st
-element-copy-out-last-st c = omega (arith, slot-below (c .before))
+element-copy-out-last-st c = slot-below (c .before)
 
 mul-last-sq : tie.Need-mul-last-sq
 mul-last-sq c = omega (arith, slot-below (c .before .before))
 
 element-copy-out-last-sq : tie.Need-element-copy-out-last-sq
-element-copy-out-last-sq c = omega (arith, slot-below (c .before .before))
+element-copy-out-last-sq c = slot-below (c .before .before)
 
 mul-last-seen : tie.Need-mul-last-seen
 mul-last-seen c = omega (arith, slot-below (c .before .before .before))
 
 element-copy-out-last-seen : tie.Need-element-copy-out-last-seen
-element-copy-out-last-seen c = omega (arith, slot-below (c .before .before .before))
+element-copy-out-last-seen c = slot-below (c .before .before .before)
 
 outside-tolerance-requires : tie.Need-outside-tolerance-requires
 outside-tolerance-requires c κs = search needs
 
 returns-3 : tie.Need-returns-3
 returns-3 c lastUsed tick =
-    let f = c .before .before .before .before .before in
-    c .outside-tolerance .ensures
-    ∙ retx-known _ _ _ (sym (f .before .before .find-goose-seq .ensures) ∙ f .slot .given .1) _ _ (not-false _ (f .before .before .before .if1 .left))
+    retx-known _ _ _ (c .before .before .before .before .before .before .before .find-goose-seq .ensures) (c .before .before .before .before .before .slot .given .1) _ _
+    (not-false _ (c .before .before .before .before .before .before .before .before .if1 .left)) (c .outside-tolerance .ensures)
 
 pub retx-anomaly-spec : {M : Type 1} → statement M
 retx-anomaly-spec =

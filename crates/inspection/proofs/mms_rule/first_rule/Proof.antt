@@ -1,30 +1,26 @@
--- `first_rule` meets its contract. The invariant: the search from place i on is the whole search.
-use mathlib.Core.Path.{_≡_, refl, sym, _∙_}
-use Prim.Native.Nat.{_≤_, _-_}
-use native.Mathlib.Numerals.{unary-clauses}
+-- `first_rule` meets its contract. The invariant: the search has reached place i of the n rules.
+use mathlib.Core.Path.{_≡_}
+use Prim.Native.Nat.{_-_}
 use native.Mathlib.Omega.{arith}
 use borrow.Author.Needs.{needs}
 use lib.ListN.{getD}
-use Rattle.records.specs.Search.{firstFrom}
-use Rattle.records.proofs.SearchLaws.{first-hit, first-miss, first-none}
-use Rattle.inspection.specs.Rules.{ruleCount}
+use Rattle.records.proofs.SearchLaws.{Reached, reached-first, reached-end, reached-hit, reached-next}
 use Rattle.inspection.specs.MmsRule.{applies}
+use Rattle.inspection.specs.Rules.{ruleCount}
 use Rattle.inspection.proofs.mms_rule.first_rule.Statement.{statement}
 use Rattle.inspection.proofs.mms_rule.first_rule.Tie as tie
 
 abbrev Inv-loop : tie.InvT-loop
-Inv-loop mask count raw n i₀ i =
-    (i ≤ n) × (n ≡ ruleCount count)
-    × (firstFrom (λ j. applies (getD mask j 0) raw) 0 n ≡ firstFrom (λ j. applies (getD mask j 0) raw) i (n - i))
+Inv-loop masks count raw n i₀ i = (n ≡ ruleCount count) × Reached (λ j. applies (getD masks j 0) raw) (ruleCount count) i
 
 abbrev μ-loop : tie.MeasureT-loop
-μ-loop mask count raw n i₀ i = n - i
+μ-loop masks count raw n i₀ i = n - i
 
 rule-count-requires : tie.Need-rule-count-requires Inv-loop μ-loop
 rule-count-requires c κs = search needs
 
 loop-holds : tie.Need-loop-holds Inv-loop μ-loop
-loop-holds c = (omega arith, c .rule-count .ensures, simp unary-clauses refl)
+loop-holds c = (c .rule-count .ensures, reached-first)
 
 mul-applies : tie.Need-mul-applies Inv-loop μ-loop
 mul-applies c = omega arith
@@ -43,18 +39,13 @@ loop-less c = omega arith
 
 loop-again : tie.Need-loop-again Inv-loop μ-loop
 loop-again c =
-    let l = c .before .before .before .before .loop in
-    (omega arith, l .inv .1, l .inv .2 ∙ first-miss _ _ _ (omega arith) (sym (c .before .applies .ensures) ∙ c .if2 .left))
+    (c .before .before .before .before .loop .inv .0, reached-next (c .before .before .before .before .loop .inv .1) (omega arith) (c .before .applies .ensures) (c .if2 .left))
 
 returns : tie.Need-returns Inv-loop μ-loop
-returns c =
-    let l = c .before .loop in
-    rw (← l .inv .1) (sym (l .inv .2 ∙ first-none _ _ _ (omega arith)))
+returns c = reached-end (c .before .loop .inv .1) (omega arith)
 
 returns-2 : tie.Need-returns-2 Inv-loop μ-loop
-returns-2 c =
-    let l = c .before .before .before .before .loop in
-    rw (← l .inv .1) (sym (l .inv .2 ∙ first-hit _ _ _ (omega arith) (sym (c .before .applies .ensures) ∙ c .if2 .taken)))
+returns-2 c = reached-hit (c .before .before .before .before .loop .inv .1) (omega arith) (c .before .applies .ensures) (c .if2 .taken)
 
 pub first-rule-spec : {M : Type 1} → statement M
 first-rule-spec =

@@ -7,8 +7,8 @@ use Rattle.inspection.proofs.reservation.cb_hijack_check.Statement.{sta
 use Rattle.inspection.proofs.reservation.cb_hijack_check.Tie as tie
 
 -- the name's array
-size : (s : tie.Start) → length (s .args .t2) ≡ 64
-size s = search needs
+size : (c : tie.Start) → length (c .args .t2) ≡ 64
+size c = search needs
 
 valid-len-requires : tie.Need-valid-len-requires
 valid-len-requires c κs = search needs
@@ -16,9 +16,8 @@ valid-len-requires c κs = search needs
 returns : tie.Need-returns
 returns c =
     let v = c .before in
-    let s = v .before in
-    let a = s .args in
-    checked-empty (a .t) (a .t2) (a .cb-ref-len) (size s) (a .is-goose) (v .valid-len .ensures) refl (a .src-mac) (c .if1 .taken)
+    let a = v .before .args in
+    checked-empty (a .t) (a .t2) (a .cb-ref-len) (size (v .before)) (a .is-goose) (v .valid-len .ensures) refl (a .src-mac) (c .if1 .taken)
 
 padded-requires : tie.Need-padded-requires
 padded-requires c κs = search needs
@@ -35,10 +34,9 @@ returns-2 c =
     let n = f .before .before .before .before .before .before .before in
     let i = n .before .before in
     let v = i .before in
-    let s = v .before in
-    let a = s .args in
+    let a = v .before .args in
     c .used-by .ensures
-    ∙ checked-found (a .t) (a .t2) (a .cb-ref-len) (size s) (a .is-goose) (v .valid-len .ensures) (n .padded .ensures) (a .src-mac) (i .if1 .left)
+    ∙ checked-found (a .t) (a .t2) (a .cb-ref-len) (size (v .before)) (a .is-goose) (v .valid-len .ensures) (n .padded .ensures) (a .src-mac) (i .if1 .left)
     (f .find-reservation .ensures)
 
 pub cb-hijack-check-spec : {M : Type 1} → statement M

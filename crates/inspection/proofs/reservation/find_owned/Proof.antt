@@ -1,31 +1,27 @@
--- `find_owned` meets its contract. The invariant: the search from slot i on is the whole search.
-use mathlib.Core.Path.{_≡_, refl, sym, _∙_}
+-- `find_owned` meets its contract. The invariant: the search has reached slot i.
+use mathlib.Core.Path.{refl}
 use mathlib.Core.Bool.{_&&_}
 use mathlib.Core.Logic.{⊎-elim}
-use Prim.Native.Nat.{_≤_, _-_}
+use Prim.Native.Nat.{_-_}
 use native.Mathlib.Omega.{arith}
 use borrow.Author.Needs.{needs}
 use borrow.Author.Tests.{eq-eqb, ne-eqb}
 use lib.Dec.{eqb}
 use lib.ListN.{getD}
-use Rattle.records.specs.Search.{first, firstFrom}
-use Rattle.records.proofs.SearchLaws.{first-hit, first-miss, first-none}
+use Rattle.records.proofs.Booleans.{and-yes, and-no, answered}
+use Rattle.records.proofs.SearchLaws.{Reached, reached-first, reached-end, reached-hit, reached-next}
 use Rattle.inspection.specs.Reservation.{reservesAt}
-use Rattle.inspection.proofs.ReservationLaws.{and-no, and-yes}
 use Rattle.inspection.proofs.reservation.find_owned.Statement.{statement}
 use Rattle.inspection.proofs.reservation.find_owned.Tie as tie
 
 abbrev Inv-loop : tie.InvT-loop
-Inv-loop octets lens kinds owners active name len is-goose client i₀ i =
-    (i ≤ 16)
-    × (first (λ j. reservesAt octets lens kinds active name len is-goose j && eqb (getD owners j 0) client)
-    ≡ firstFrom (λ j. reservesAt octets lens kinds active name len is-goose j && eqb (getD owners j 0) client) i (16 - i))
+Inv-loop octets lens kinds owners active name len isGoose client i₀ i = Reached (λ j. reservesAt octets lens kinds active name len isGoose j && eqb (getD owners j 0) client) 16 i
 
 abbrev μ-loop : tie.MeasureT-loop
-μ-loop octets lens kinds owners active name len is-goose client i₀ i = 16 - i
+μ-loop octets lens kinds owners active name len isGoose client i₀ i = 16 - i
 
 loop-holds : tie.Need-loop-holds Inv-loop μ-loop
-loop-holds c = (omega arith, refl)
+loop-holds c = reached-first
 
 reserves-requires : tie.Need-reserves-requires Inv-loop μ-loop
 reserves-requires c κs = search needs
@@ -44,22 +40,16 @@ loop-less c = omega arith
 
 loop-again : tie.Need-loop-again Inv-loop μ-loop
 loop-again c =
-    let l = c .before .before .before .loop in
-    let same = c .before .reserves .ensures in (
-      omega arith,
-      l .inv .1
-          ∙ first-miss _ _ _ (omega arith)
-          (⊎-elim (λ w. and-yes same (w .0 .taken) (ne-eqb _ _ (w .2 .left))) (λ w. and-no _ same (w .left)) (c .if2 .came)),
-    )
+    reached-next (c .before .before .before .loop .inv) (omega arith) refl
+    (⊎-elim (λ w. and-yes (answered (c .before .reserves .ensures) (w .0 .taken)) (ne-eqb _ _ (w .2 .left))) (λ w. and-no _ (answered (c .before .reserves .ensures) (w .left))) (c .if2 .came))
 
 returns : tie.Need-returns Inv-loop μ-loop
-returns c = sym (c .before .loop .inv .1 ∙ first-none _ _ _ (omega arith))
+returns c = reached-end (c .before .loop .inv) (omega arith)
 
 returns-2 : tie.Need-returns-2 Inv-loop μ-loop
 returns-2 c =
-    let t = c .before .before in
-    let l = t .before .before .before .loop in
-    sym (l .inv .1 ∙ first-hit _ _ _ (omega arith) (and-yes (t .before .reserves .ensures) (t .if2 .taken) (eq-eqb _ _ (c .if3 .taken))))
+    reached-hit (c .before .before .before .before .before .loop .inv) (omega arith) refl
+    (and-yes (answered (c .before .before .before .reserves .ensures) (c .before .before .if2 .taken)) (eq-eqb _ _ (c .if3 .taken)))
 
 pub find-owned-spec : {M : Type 1} → statement M
 find-owned-spec =

@@ -1,6 +1,6 @@
 -- `place_for` meets its contract.
-use mathlib.Core.Path.{sym, _∙_}
 use borrow.Author.Needs.{needs}
+use Rattle.records.proofs.Booleans.{answered}
 use Rattle.inspection.proofs.reservation.place_for.Statement.{statement}
 use Rattle.inspection.proofs.reservation.place_for.Tie as tie
 
@@ -17,10 +17,10 @@ first-free-requires : tie.Need-first-free-requires
 first-free-requires c κs = search needs
 
 returns : tie.Need-returns
-returns c = rw (sym (c .before .before .before .find-reservation .ensures) ∙ c .before .i .given .1)
+returns c = rw (answered (c .before .before .before .find-reservation .ensures) (c .before .i .given .1))
 
 returns-2 : tie.Need-returns-2
-returns-2 c = rw (sym (c .before .before .before .find-reservation .ensures) ∙ c .before .enum-told .given .1) (c .first-free .ensures)
+returns-2 c = rw (answered (c .before .before .before .find-reservation .ensures) (c .before .enum-told .given .1)) (c .first-free .ensures)
 
 pub place-for-spec : {M : Type 1} → statement M
 place-for-spec =

@@ -2,13 +2,14 @@
 use mathlib.Core.Path.{_≡_, refl}
 use borrow.Author.Needs.{needs}
 use lib.ListN.{length}
-use Rattle.inspection.proofs.ReservationLaws.{found-below, released-all, released-found}
+use Rattle.records.proofs.TableLaws.{found-below}
+use Rattle.inspection.proofs.ReservationLaws.{released-all, released-found}
 use Rattle.inspection.proofs.reservation.release_cb.Statement.{statement}
 use Rattle.inspection.proofs.reservation.release_cb.Tie as tie
 
 -- the name's array
-size : (s : tie.Start) → length (s .args .t2) ≡ 64
-size s = search needs
+size : (c : tie.Start) → length (c .args .t2) ≡ 64
+size c = search needs
 
 valid-len-requires : tie.Need-valid-len-requires
 valid-len-requires c κs = search needs
@@ -20,9 +21,8 @@ returns : tie.Need-returns
 returns c =
     let i = c .before .before .before .before in
     let v = i .before in
-    let s = v .before in
-    let a = s .args in
-    released-all (a .t) (a .t2) (a .cb-ref-len) (size s) (a .is-goose) (v .valid-len .ensures) refl (a .client-id) (i .if1 .taken)
+    let a = v .before .args in
+    released-all (a .t) (a .t2) (a .cb-ref-len) (size (v .before)) (a .is-goose) (v .valid-len .ensures) refl (a .client-id) (i .if1 .taken)
     (c .free-of-client .ensures)
 
 padded-requires : tie.Need-padded-requires
@@ -39,8 +39,7 @@ enum-known-place c = search needs
 
 element-write-out : tie.Need-element-write-out
 element-write-out c =
-    let p = c .before in
-    found-below _ (p .before .before .find-owned .ensures) (p .place .given .1)
+    found-below _ (c .before .before .before .find-owned .ensures) (c .before .place .given .1)
 
 returns-2 : tie.Need-returns-2
 returns-2 c =
@@ -48,22 +47,19 @@ returns-2 c =
     let n = f .before .before .before .before .before .before .before .before in
     let i = n .before .before in
     let v = i .before in
-    let s = v .before in
-    let a = s .args in
-    released-found (a .t) (a .t2) (a .cb-ref-len) (size s) (a .is-goose) (v .valid-len .ensures) (n .padded .ensures) (a .client-id) (i .if1 .left)
+    let a = v .before .args in
+    released-found (a .t) (a .t2) (a .cb-ref-len) (size (v .before)) (a .is-goose) (v .valid-len .ensures) (n .padded .ensures) (a .client-id) (i .if1 .left)
     (f .find-owned .ensures) (c .enum-told .given .1)
 
 returns-3 : tie.Need-returns-3
 returns-3 c =
-    let p = c .before in
-    let f = p .before .before in
+    let f = c .before .before .before in
     let n = f .before .before .before .before .before .before .before .before in
     let i = n .before .before in
     let v = i .before in
-    let s = v .before in
-    let a = s .args in
-    released-found (a .t) (a .t2) (a .cb-ref-len) (size s) (a .is-goose) (v .valid-len .ensures) (n .padded .ensures) (a .client-id) (i .if1 .left)
-    (f .find-owned .ensures) (p .place .given .1)
+    let a = v .before .args in
+    released-found (a .t) (a .t2) (a .cb-ref-len) (size (v .before)) (a .is-goose) (v .valid-len .ensures) (n .padded .ensures) (a .client-id) (i .if1 .left)
+    (f .find-owned .ensures) (c .before .place .given .1)
 
 pub release-cb-spec : {M : Type 1} → statement M
 release-cb-spec =

@@ -8,8 +8,8 @@ use Rattle.inspection.proofs.reservation.reserve_cb.Statement.{statemen
 use Rattle.inspection.proofs.reservation.reserve_cb.Tie as tie
 
 -- the name's array
-size : (s : tie.Start) → length (s .args .t2) ≡ 64
-size s = search needs
+size : (c : tie.Start) → length (c .args .t2) ≡ 64
+size c = search needs
 
 valid-len-requires : tie.Need-valid-len-requires
 valid-len-requires c κs = search needs
@@ -31,9 +31,8 @@ returns c =
     let f = c .before .before in
     let n = f .before .before .before .before .before .before .before in
     let v = n .before .before in
-    let s = v .before in
-    let a = s .args in
-    reserved-full (a .t) (a .t2) (a .cb-ref-len) (size s) (a .is-goose) (v .valid-len .ensures) (n .padded .ensures) (a .client-id)
+    let a = v .before .args in
+    reserved-full (a .t) (a .t2) (a .cb-ref-len) (size (v .before)) (a .is-goose) (v .valid-len .ensures) (n .padded .ensures) (a .client-id)
     (f .place-for .ensures) (c .enum-told .given .1)
 
 stored-requires : tie.Need-stored-requires
@@ -41,8 +40,7 @@ stored-requires c κs = search needs
 
 element-write-out : tie.Need-element-write-out
 element-write-out c =
-    let p = c .before .before .before .before in
-    place-below _ _ (p .before .before .place-for .ensures) (p .place .given .1)
+    place-below _ _ (c .before .before .before .before .before .before .place-for .ensures) (c .before .before .before .before .place .given .1)
 
 mul-out : tie.Need-mul-out
 mul-out c = omega (arith, element-write-out c)
@@ -68,9 +66,8 @@ returns-2 c =
     let f = p .before .before in
     let n = f .before .before .before .before .before .before .before in
     let v = n .before .before in
-    let s = v .before in
-    let a = s .args in
-    reserved-at (a .t) (a .t2) (a .cb-ref-len) (size s) (a .is-goose) (v .valid-len .ensures) (n .padded .ensures) (a .client-id)
+    let a = v .before .args in
+    reserved-at (a .t) (a .t2) (a .cb-ref-len) (size (v .before)) (a .is-goose) (v .valid-len .ensures) (n .padded .ensures) (a .client-id)
     (f .place-for .ensures) (p .place .given .1) (c .stored .ensures)
 
 pub reserve-cb-spec : {M : Type 1} → statement M

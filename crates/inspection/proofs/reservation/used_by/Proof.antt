@@ -1,4 +1,5 @@
 -- `used_by` meets its contract.
+use native.Mathlib.Omega.{arith}
 use borrow.Author.Needs.{needs}
 use Rattle.inspection.specs.Reservation.{boundTo}
 use Rattle.inspection.proofs.ReservationLaws.{used-none, used-past, used-bound, used-first}
@@ -19,25 +20,25 @@ returns-2 c =
     used-past _ _ (c .before .before .place .given .1) (search needs) (search needs) (c .if1 .taken)
 
 element-copy-out-if2 : tie.Need-element-copy-out-if2
-element-copy-out-if2 c = search needs
+element-copy-out-if2 c = omega arith
 
 mul-checked : tie.Need-mul-checked
-mul-checked c = search needs
+mul-checked c = omega arith
 
 element-copy-out-checked : tie.Need-element-copy-out-checked
-element-copy-out-checked c = search needs
+element-copy-out-checked c = omega arith
 
 returns-3 : tie.Need-returns-3
 returns-3 c = used-bound _ _ (c .before .before .before .before .before .place .given .1) (c .before .if2 .taken)
 
 element-write-out : tie.Need-element-write-out
-element-write-out c = search needs
+element-write-out c = omega arith
 
 mul-out : tie.Need-mul-out
-mul-out c = search needs
+mul-out c = omega arith
 
 element-write-out-2 : tie.Need-element-write-out-2
-element-write-out-2 c = search needs
+element-write-out-2 c = omega arith
 
 returns-4 : tie.Need-returns-4
 unfolding boundTo

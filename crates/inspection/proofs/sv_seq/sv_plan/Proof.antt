@@ -1,5 +1,4 @@
 -- `sv_plan` meets its contract.
-use mathlib.Core.Path.{sym, _∙_}
 use Prim.Native.Nat.{_<_}
 use native.Mathlib.Omega.{arith}
 use borrow.Author.Needs.{needs}
@@ -26,16 +25,16 @@ slot-for-requires c κs = search needs
 returns : tie.Need-returns
 returns c =
     let f = c .before .before in
-    plan-new _ _ _ _ (sym (f .before .before .find-sv-seq .ensures) ∙ f .enum-told .given .1) (c .slot-for .ensures ∙ rw (c .before .next-tick .ensures))
+    plan-new _ _ _ _ (f .before .before .find-sv-seq .ensures) (f .enum-told .given .1) (c .before .next-tick .ensures) (c .slot-for .ensures)
 
-known-below : (c : tie.After-slot) → c .slot .given .0 .0 < 16
-known-below c = found-below _ (sym (c .before .before .find-sv-seq .ensures) ∙ c .slot .given .1)
+slot-below : (c : tie.After-slot) → c .slot .given .0 .0 < 16
+slot-below c = found-below _ (c .before .before .find-sv-seq .ensures) (c .slot .given .1)
 
 mul-last : tie.Need-mul-last
-mul-last c = omega (arith, known-below (c .before))
+mul-last c = omega (arith, slot-below (c .before))
 
 element-copy-out-last : tie.Need-element-copy-out-last
-element-copy-out-last c = omega (arith, known-below (c .before))
+element-copy-out-last c = slot-below (c .before)
 
 count-outcome-requires : tie.Need-count-outcome-requires
 count-outcome-requires c κs = search needs
@@ -46,12 +45,12 @@ is-replay-requires c κs = search needs
 returns-2 : tie.Need-returns-2
 returns-2 c =
     let f = c .before .before .before .before .before in
-    plan-replay _ _ _ _ (sym (f .before .before .find-sv-seq .ensures) ∙ f .slot .given .1) (c .before .before .count-outcome .ensures) (sym (c .before .is-replay .ensures) ∙ c .if1 .taken)
+    plan-replay _ _ _ _ (f .before .before .find-sv-seq .ensures) (f .slot .given .1) (c .before .before .count-outcome .ensures) (c .before .is-replay .ensures) (c .if1 .taken)
 
 returns-3 : tie.Need-returns-3
 returns-3 c =
     let f = c .before .before .before .before .before in
-    plan-counts _ _ _ _ (sym (f .before .before .find-sv-seq .ensures) ∙ f .slot .given .1) (c .before .before .count-outcome .ensures) (sym (c .before .is-replay .ensures) ∙ c .if1 .left)
+    plan-counts _ _ _ _ (f .before .before .find-sv-seq .ensures) (f .slot .given .1) (c .before .before .count-outcome .ensures) (c .before .is-replay .ensures) (c .if1 .left)
 
 pub sv-plan-spec : {M : Type 1} → statement M
 sv-plan-spec =

@@ -1,29 +1,24 @@
--- `find_clock` meets its contract. The invariant: the search from slot i on is the whole search.
-use mathlib.Core.Path.{_≡_, refl, sym, _∙_}
-use mathlib.Core.Bool.{Bool, false, _&&_}
-use mathlib.Core.List.{List}
+-- `find_clock` meets its contract. The invariant: the search has reached slot i.
+use mathlib.Core.Path.{refl}
+use mathlib.Core.Bool.{false, _&&_}
 use mathlib.Core.Logic.{⊎-elim}
-use Prim.Native.Nat.{ℕ, _≤_, _-_}
+use Prim.Native.Nat.{_-_}
 use native.Mathlib.Omega.{arith}
 use lib.Dec.{eqb}
 use lib.ListN.{getD}
-use Rattle.records.specs.Search.{first, firstFrom}
-use Rattle.records.proofs.SearchLaws.{first-hit, first-miss, first-none}
-use Rattle.records.proofs.Booleans.{and-yes, and-no-left, and-no-right}
+use Rattle.records.proofs.Booleans.{and-yes, and-no}
+use Rattle.records.proofs.SearchLaws.{Reached, reached-first, reached-end, reached-hit, reached-next}
 use Rattle.inspection.proofs.time_field.find_clock.Statement.{statement}
 use Rattle.inspection.proofs.time_field.find_clock.Tie as tie
 
-abbrev held : List ℕ → List Bool → ℕ → ℕ → Bool
-held macs active mac j = getD active j false && eqb (getD macs j 0) mac
-
 abbrev Inv-loop : tie.InvT-loop
-Inv-loop macs active mac i₀ i = (i ≤ 16) × (first (held macs active mac) ≡ firstFrom (held macs active mac) i (16 - i))
+Inv-loop macs active mac i₀ i = Reached (λ j. getD active j false && eqb (getD macs j 0) mac) 16 i
 
 abbrev μ-loop : tie.MeasureT-loop
 μ-loop macs active mac i₀ i = 16 - i
 
 loop-holds : tie.Need-loop-holds Inv-loop μ-loop
-loop-holds c = (omega arith, refl)
+loop-holds c = reached-first
 
 element-copy-out-if2 : tie.Need-element-copy-out-if2 Inv-loop μ-loop
 element-copy-out-if2 c = omega arith
@@ -42,21 +37,15 @@ loop-less c = omega arith
 
 loop-again : tie.Need-loop-again Inv-loop μ-loop
 loop-again c =
-    let l = c .before .before .before .loop in
-    let inUse = getD (c .before .before .before .before .args .active .now) (l .i) false in (
-      omega arith,
-      l .inv .1
-          ∙ first-miss _ _ _ (omega arith)
-          (⊎-elim (λ w. and-no-right inUse _ (w .2 .left)) (λ w. and-no-left _ _ (w .left)) (c .if2 .came)),
-    )
+    reached-next (c .before .before .before .loop .inv) (omega arith) refl
+    (⊎-elim (λ w. and-yes (w .0 .taken) (w .2 .left)) (λ w. and-no _ (w .left)) (c .if2 .came))
 
 returns : tie.Need-returns Inv-loop μ-loop
-returns c = sym (c .before .loop .inv .1 ∙ first-none _ _ _ (omega arith))
+returns c = reached-end (c .before .loop .inv) (omega arith)
 
 returns-2 : tie.Need-returns-2 Inv-loop μ-loop
 returns-2 c =
-    let l = c .before .before .before .before .before .loop in
-    sym (l .inv .1 ∙ first-hit _ _ _ (omega arith) (and-yes _ _ (c .before .before .if2 .taken) (c .if3 .taken)))
+    reached-hit (c .before .before .before .before .before .loop .inv) (omega arith) refl (and-yes (c .before .before .if2 .taken) (c .if3 .taken))
 
 pub find-clock-spec : {M : Type 1} → statement M
 find-clock-spec =
