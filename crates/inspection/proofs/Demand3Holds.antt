@@ -1,9 +1,8 @@
 -- Demand 3 holds: the tables answer as the remembered lists, and unequal lists are distinguished, streams first and then clocks.
-use Prim.Native.Nat.{ℕ, suc, _+_, _≤_, _<_, _^_}
-use mathlib.Core.Bool.{Bool, true, false, _&&_, cond}
-use mathlib.Core.List.{List, [], _∷_, _++_, foldl, reverse}
-use mathlib.Core.Logic.{_≢_, _↔_}
-use mathlib.Core.Option.{Option, none, some}
+use Prim.Native.Nat.{ℕ, suc, _+_, _≤_, _<_}
+use mathlib.Core.Bool.{Bool, true, false, cond}
+use mathlib.Core.List.{List, [], _∷_, _++_, foldl}
+use mathlib.Core.Logic.{_≢_}
 use mathlib.Core.Path.{_≡_, refl, sym, ap, _∙_}
 use native.Mathlib.Decide.{ℕ-discrete}
 use native.Mathlib.Omega.{arith}
@@ -15,7 +14,7 @@ use Rattle.records.specs.Legal.{LegalGoose, LegalSv, OctetArray}
 use Rattle.records.specs.Name.{validLen, nameOf, padded}
 use Rattle.records.specs.Remembered.{lookup}
 use Rattle.records.proofs.Booleans.{and-false}
-use Rattle.records.proofs.Distinguish.{outputs-last, answer, Legal as LegalFrame, Distinguished as ListsDistinguished, left, distinguish-histories}
+use Rattle.records.proofs.Distinguish.{outputs-last, answer, Legal as LegalFrame, Distinguished as ListsDistinguished, distinguish-histories}
 use Rattle.records.proofs.KeyedLists.{All}
 use Rattle.records.proofs.NameLaws.{name-padded}
 use Rattle.records.proofs.OctetLaws.{octets-take, array-zeros, array-padded}
@@ -23,17 +22,17 @@ use Rattle.inspection.specs.declared.monitor.Iec61850Monitor.{Iec61850Mo
 use Rattle.inspection.specs.declared.settings.Settings.{Settings}
 use Rattle.inspection.specs.Address.{addressOf}
 use Rattle.inspection.specs.Calls.{Setting, configuredMonitor}
-use Rattle.inspection.specs.Demand3.{Inspection, goose, sv, Legal, inspect, afterHistory, answers, Answer, svReaches, gooseReaches, ifClock, clockReaches, reaching, RememberedLists, rememberedLists, JumpLimit, Premises, Distinguished, SameAnswers, EqualLists, Demand3}
+use Rattle.inspection.specs.Demand3.{Inspection, goose, sv, Legal, afterHistory, answers, Answer, svReaches, gooseReaches, ifClock, clockReaches, reaching, RememberedLists, rememberedLists, JumpLimit, Premises, Distinguished, SameAnswers, EqualLists, Demand3}
 use Rattle.inspection.specs.GooseSeq.{gooseKey, gooseNumbers}
 use Rattle.inspection.specs.InspectGoose.{blocked, goosePair}
 use Rattle.inspection.specs.InspectSv.{countFindings, svPair}
 use Rattle.inspection.specs.Report.{Finding, clockFindings}
-use Rattle.inspection.specs.SvSeq.{svKey, svOutcome}
+use Rattle.inspection.specs.SvSeq.{svOutcome}
 use Rattle.inspection.specs.TimeField.{hasClock, clockAlert}
 use Rattle.inspection.proofs.AddressLaws.{addressOctets, address-octets, address-back, address-fits}
-use Rattle.inspection.proofs.Observables.{Name, Hash, Numbers, svAnswer, svObservable, gooseAnswer, gooseObservable, clockObservable}
-use Rattle.inspection.proofs.PlainMonitor.{Plain, Left, left as leftBy, answers-from}
-use Rattle.inspection.proofs.RememberedLaws.{names≟, pairs≟, touchSv, touchGoose, touchClock, listsAfter, moved, listFindings, listAnswer, listAnswers, remembered-lists, remembers-history, answers-lists, newRemembering, remembers-new}
+use Rattle.inspection.proofs.Observables.{Name, Numbers, svAnswer, svObservable, gooseAnswer, gooseObservable, clockObservable}
+use Rattle.inspection.proofs.PlainMonitor.{Plain, left as leftBy, answers-from}
+use Rattle.inspection.proofs.RememberedLaws.{names≟, pairs≟, touchSv, touchGoose, touchClock, listsAfter, moved, listAnswer, listAnswers, remembered-lists, remembers-history, answers-lists, remembers-new}
 use Rattle.inspection.proofs.ReportLaws.{answerFrom, length-codes}
 use Rattle.inspection.proofs.SettingLaws.{configured-untouched}
 

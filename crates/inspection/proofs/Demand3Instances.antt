@@ -25,7 +25,7 @@ use Rattle.records.proofs.KeyedLists.{difference, absent-key}
 use Rattle.records.proofs.Lists.{getD-constant}
 use Rattle.records.proofs.OctetLaws.{array-zeros}
 use Rattle.inspection.proofs.Observables.{sv-separating}
-use Rattle.inspection.proofs.Demand3Holds.{legal-append, demand-3, distinguished, further-lists, sv-further, further-of, made, svInspection, svFrameOf, sv-keys}
+use Rattle.inspection.proofs.Demand3Holds.{legal-append, demand-3, distinguished, further-lists, sv-further, further-of, made, svInspection, svFrameOf}
 
 -- a frame of an svID of one octet, its address, count and seconds
 frame : ℕ → ℕ → ℕ → ℕ → SvFrame

@@ -1,8 +1,7 @@
 -- Demand 3 holds for histories that mix raw and decoded frames.
-use Prim.Native.Nat.{ℕ, _+_, _≤_}
-use mathlib.Core.List.{List, [], _∷_, _++_, foldl, map}
+use Prim.Native.Nat.{_+_}
+use mathlib.Core.List.{List, [], _∷_, _++_, map}
 use mathlib.Core.Path.{_≡_, refl, sym, ap, _∙_}
-use lib.ListN.{length}
 use Rattle.records.specs.declared.frame.SvFrame.{SvFrame}
 use Rattle.records.specs.Legal.{LegalSv}
 use Rattle.wire.specs.declared.sv.Parsed.{Parsed}
@@ -13,7 +12,7 @@ use Rattle.inspection.specs.declared.monitor.Iec61850Monitor.{Iec61850Mo
 use Rattle.inspection.specs.Calls.{configuredMonitor}
 use Rattle.inspection.specs.Demand3.{Inspection, goose, sv, Legal, inspect, afterHistory, Answer, answerOf, answers, SameAnswers}
 use Rattle.inspection.specs.Demand3Mixed.{Arrival, decoded, raw, LegalArrivals, ifRead, inspectionOf, inspections, arrived, afterArrivals, ifAnswered, answered, arrivalAnswers, SameArrivalAnswers, Demand3Mixed}
-use Rattle.inspection.specs.InspectSv.{inspectSv, rawInspected, inspectRawSv}
+use Rattle.inspection.specs.InspectSv.{rawInspected, inspectRawSv}
 use Rattle.inspection.proofs.Demand3Holds.{legal-append, demand-3}
 
 -- ---- one arrival

@@ -1,6 +1,6 @@
 -- What tells remembered values apart: for each list the legal keys and inputs, and an input to which two different values answer differently.
-use Prim.Native.Nat.{ℕ, zero, suc, _+_, _*_, _≤_, _<_, _^_, _-_}
-use mathlib.Core.Bool.{Bool, true, false, _&&_, _||_, not, cond, false≢true}
+use Prim.Native.Nat.{ℕ, zero, suc, _≤_, _<_, _^_, _-_}
+use mathlib.Core.Bool.{Bool, true, false, _&&_, cond, false≢true}
 use mathlib.Core.List.{List, [], _∷_, head-eq-of-cons-eq}
 use mathlib.Core.Logic.{_≢_, _⊎_, inl, inr}
 use mathlib.Core.Option.{Option, none, some}
@@ -8,7 +8,7 @@ use mathlib.Core.Path.{_≡_, refl, sym, ap, _∙_}
 use native.Mathlib.Decide.{ℕ-discrete, decLt}
 use native.Mathlib.Omega.{arith}
 use borrow.Author.Tests.{lt-ltb, le-ltb, le-leb, lt-leb, eq-eqb, ne-eqb}
-use lib.Dec.{eqb, ltb}
+use lib.Dec.{ltb}
 use lib.ListN.{length, getD}
 use Rattle.records.specs.declared.alert.AlertSeverity.the-variants.{Medium}
 use Rattle.records.specs.declared.alert.AlertCode.the-variants.{SvRateAnomaly}
@@ -18,7 +18,6 @@ use Rattle.records.specs.Remembered.{after}
 use Rattle.records.proofs.Booleans.{cond-holds}
 use Rattle.records.proofs.Distinguish.{Observable}
 use Rattle.records.proofs.OctetLaws.{octets-none}
-use Rattle.inspection.specs.declared.sv_seq.SvSeqOutcome.{SvSeqOutcome}
 use Rattle.inspection.specs.Demand3.{Answer, countAfter, numbersAfter, JumpLimit}
 use Rattle.inspection.specs.GooseSeq.{replays}
 use Rattle.inspection.specs.InspectGoose.{streamFindings}

@@ -3,7 +3,7 @@ use Prim.Native.Nat.{ℕ, _≤_}
 use mathlib.Core.Bool.{Bool, true, false, _&&_, cond}
 use mathlib.Core.List.{List, [], _∷_, _++_, foldl}
 use mathlib.Core.Option.{Option, none, some}
-use mathlib.Core.Path.{_≡_, refl, sym, ap, _∙_}
+use mathlib.Core.Path.{_≡_, refl, _∙_}
 use native.Mathlib.Omega.{arith}
 use lib.Dec.{eqb, ltb}
 use lib.ListN.{length, length-append}
@@ -30,7 +30,7 @@ use Rattle.inspection.specs.Address.{addressOf}
 use Rattle.inspection.specs.Demand3.{Inspection, goose, sv, inspect, afterHistory, answers, Answer, answerOf, Premises}
 use Rattle.inspection.specs.GooseSeq.{gooseKey, gooseTimed, gooseStreams, gooseChecked, retxChecked, retransmission}
 use Rattle.inspection.specs.InspectGoose.{goosePair, blocked, streamFindings, gooseTest, gooseAllowed, gooseReservation, gooseTimeField, inspectGoose}
-use Rattle.inspection.specs.InspectSv.{svPair, rateFindings, countFindings, svTimeField, svReservation, svRegistered, svBinding, inspectSv}
+use Rattle.inspection.specs.InspectSv.{svPair, rateFindings, countFindings, svTimeField, svReservation, svBinding, inspectSv}
 use Rattle.inspection.specs.Monitor.{countedGoose, countedSv}
 use Rattle.inspection.specs.Report.{Finding, refusal, clockFindings, ended, reported}
 use Rattle.inspection.specs.Reservation.{reservesAt, reservationOf, cbChecked, noReservations}

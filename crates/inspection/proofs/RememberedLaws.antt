@@ -1,7 +1,7 @@
 -- The streams and clocks of a monitor represent the lists that its history leaves remembered, and answer as these.
 use Prim.Native.Nat.{ℕ, suc, _+_, _≤_, _<_, _^_}
-use mathlib.Core.Bool.{Bool, true, false, _&&_, cond}
-use mathlib.Core.List.{List, [], _∷_, _++_, foldl, reverse}
+use mathlib.Core.Bool.{Bool, true, false, cond}
+use mathlib.Core.List.{List, [], _∷_, _++_, foldl}
 use mathlib.Core.Option.{Option, none, some}
 use mathlib.Core.Path.{_≡_, refl, sym, ap, _∙_, subst}
 use native.Mathlib.Decide.{ℕ-discrete}
@@ -36,7 +36,7 @@ use Rattle.inspection.specs.SvSeq.{svKey, svStreams, keptCount, svOutcom
 use Rattle.inspection.specs.TimeField.{clocks, hasClock, clockAlert, timeChecked, noClocks}
 use Rattle.inspection.proofs.PlainMonitor.{Remembering, next, findings, nextAll, answersFrom}
 use Rattle.inspection.proofs.ReportLaws.{answerFrom}
-use Rattle.inspection.proofs.StreamTables.{Column, clockTable, gooseTable, svTable}
+use Rattle.inspection.proofs.StreamTables.{clockTable, gooseTable, svTable}
 
 -- ---- the three lists, frame by frame
 

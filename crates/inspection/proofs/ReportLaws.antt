@@ -2,19 +2,18 @@
 use Prim.Native.Nat.{ℕ, _+_, _≤_, _<_}
 use mathlib.Core.Bool.{Bool, true, _&&_, not}
 use mathlib.Core.List.{List, [], _∷_, _++_, map, foldl}
-use mathlib.Core.Path.{_≡_, refl, sym, ap, _∙_}
+use mathlib.Core.Path.{_≡_, refl, ap, _∙_}
 use native.Mathlib.Numerals.{add-one}
 use native.Mathlib.Omega.{arith}
 use borrow.Author.Tests.{lt-ltb}
 use lib.ListN.{length, set, take, length-append, length-set}
 use lib.Seq.{take-suc-set}
 use Rattle.records.specs.declared.alert.CodedAlert.{CodedAlert}
-use Rattle.records.specs.declared.result.InspectResult.{InspectResult}
 use Rattle.records.specs.declared.result.Pushed.{Pushed}
 use Rattle.records.specs.Alert.{denies, codeNumber, alertOf}
 use Rattle.records.specs.Result.{cleanResult, allowedWith, withAlert, pushed}
 use Rattle.inspection.specs.Demand3.{Answer, answerOf}
-use Rattle.inspection.specs.Report.{Finding, Checked, allowedUnless, reportedNext, reported}
+use Rattle.inspection.specs.Report.{Finding, Checked, reportedNext, reported}
 
 -- an answer with the findings behind it
 abbrev pub answerFrom : Bool → List ℕ → List Finding → Answer

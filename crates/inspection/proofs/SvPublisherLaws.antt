@@ -11,30 +11,30 @@ use Rattle.inspection.specs.SvPublisher.{matchAt}
 
 module _ (named addressed : ℕ → Bool) where
   -- what the first i rules tell
-  pub record Told (i : ℕ) (registered : Bool) (place : Found) : Type 0 where
+  pub record Compared (i : ℕ) (registered : Bool) (place : Found) : Type 0 where
     pub registered-is : registered ≡ isFound (lastBelow named i)
     pub place-is : place ≡ lastBelow (λ j. named j && addressed j) i
 
-  pub told-none : Told 0 false Nothing
+  pub compared-none : Compared 0 false Nothing
   unfolding lastBelow
-  told-none = record { registered-is = refl; place-is = refl }
+  compared-none = record { registered-is = refl; place-is = refl }
 
-  module _ {i : ℕ} {registered : Bool} {place : Found} (t : Told i registered place) {same : Bool} (s : same ≡ named i)
+  module _ {i : ℕ} {registered : Bool} {place : Found} (t : Compared i registered place) {same : Bool} (s : same ≡ named i)
       {r : Bool} {p : Found} where
-    pub told-fits : same ≡ true → addressed i ≡ true → r ≡ true → p ≡ At i → Told (i + 1) r p
+    pub compared-fits : same ≡ true → addressed i ≡ true → r ≡ true → p ≡ At i → Compared (i + 1) r p
     unfolding lastBelow
-    told-fits n a e f = record { registered-is = e ∙ rw (add-one, answered s n); place-is = f ∙ rw (add-one, answered s n, a) }
+    compared-fits n a e f = record { registered-is = e ∙ rw (add-one, answered s n); place-is = f ∙ rw (add-one, answered s n, a) }
 
-    pub told-wrong : same ≡ true → addressed i ≡ false → r ≡ true → p ≡ place → Told (i + 1) r p
+    pub compared-wrong : same ≡ true → addressed i ≡ false → r ≡ true → p ≡ place → Compared (i + 1) r p
     unfolding lastBelow
-    told-wrong n a e f = record { registered-is = e ∙ rw (add-one, answered s n); place-is = f ∙ t .place-is ∙ rw (add-one, answered s n, a) }
+    compared-wrong n a e f = record { registered-is = e ∙ rw (add-one, answered s n); place-is = f ∙ t .place-is ∙ rw (add-one, answered s n, a) }
 
-    pub told-other : same ≡ false → r ≡ registered → p ≡ place → Told (i + 1) r p
+    pub compared-other : same ≡ false → r ≡ registered → p ≡ place → Compared (i + 1) r p
     unfolding lastBelow
-    told-other n e f = record { registered-is = e ∙ t .registered-is ∙ rw (add-one, answered s n); place-is = f ∙ t .place-is ∙ rw (add-one, answered s n) }
+    compared-other n e f = record { registered-is = e ∙ t .registered-is ∙ rw (add-one, answered s n); place-is = f ∙ t .place-is ∙ rw (add-one, answered s n) }
 
   -- what all n rules tell
-  pub told-all :
-      {i n : ℕ} {registered : Bool} {place : Found} → Told i registered place → i ≡ n
+  pub compared-all :
+      {i n : ℕ} {registered : Bool} {place : Found} → Compared i registered place → i ≡ n
       → matchAt registered place ≡ matchAt (isFound (lastBelow named n)) (lastBelow (λ j. named j && addressed j) n)
-  told-all t e = rw (t .registered-is, t .place-is, e)
+  compared-all t e = rw (t .registered-is, t .place-is, e)

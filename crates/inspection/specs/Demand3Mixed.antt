@@ -12,7 +12,7 @@ use Rattle.wire.specs.declared.sv.Parsed.the-variants.{Frame, Error}
 use Rattle.wire.specs.Sv.{svFrame}
 use Rattle.inspection.specs.declared.monitor.Iec61850Monitor.{Iec61850Monitor}
 use Rattle.inspection.specs.Calls.{Setting, configuredMonitor}
-use Rattle.inspection.specs.Demand3.{Inspection, sv, Legal, inspect, afterHistory, Answer, answerOf, reaching, Premises, EqualLists, Distinguished}
+use Rattle.inspection.specs.Demand3.{Inspection, sv, Legal, inspect, afterHistory, Answer, answerOf, Premises, EqualLists, Distinguished}
 use Rattle.inspection.specs.InspectSv.{inspectRawSv}
 
 -- a frame that the host decoded, or the octets and the time of an SV frame

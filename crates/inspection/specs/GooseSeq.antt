@@ -104,6 +104,20 @@ noGooseStreams =
       ageing = noUse;
     }
 
+-- ---- the plan of the check, for the code
+
+-- a table of these columns
+abbrev pub gooseTableOf : List ℕ → List ℕ → List ℕ → List ℕ → List ℕ → List Bool → List ℕ → ℕ → GooseSeqTable
+gooseTableOf addresses hashes states sequences seen active used tick =
+    record {
+      «src_mac» = addresses;
+      «go_cb_ref_hash» = hashes;
+      «last_st_num» = states;
+      «last_sq_num» = sequences;
+      «last_seen_us» = seen;
+      ageing = record { active = active; «last_used» = used; tick = tick };
+    }
+
 -- a plan of a slot, whether the frame is a replay, and the numbers and time to store
 abbrev pub goosePlanOf : ℕ → Bool → (ℕ × ℕ) × ℕ → GoosePlan
 goosePlanOf slot replay v =

@@ -45,15 +45,6 @@ newBucket request = firstCall (request .0) (request .1)
 abbrev pub nextBucket : RateBucket → ℕ × ℕ → RateBucket
 nextBucket b request = consumed b (request .1)
 
--- the slot that a request's bucket uses, the bucket after the request, and whether this is within its rate
-unfoldable pub ratePlan : RateBuckets → ℕ → ℕ → ℕ → RatePlan
-ratePlan t invokeId rate time =
-    record {
-      slot = target buckets Last t invokeId;
-      bucket = after newBucket nextBucket (valueOf buckets t invokeId) (rate, time);
-      allowed = withinRate (valueOf buckets t invokeId) (rate, time);
-    }
-
 -- the buckets after a request, and whether it is within its rate; of equal ages the last entry goes
 unfoldable pub rateChecked : RateBuckets → ℕ → ℕ → ℕ → RateChecked
 rateChecked t invokeId rate time =
@@ -66,3 +57,14 @@ rateChecked t invokeId rate time =
 abbrev pub noBuckets : RateBuckets
 noBuckets =
     record { key = replicate 16 0; tokens = replicate 16 0; capacity = replicate 16 0; «last_refill_us» = replicate 16 0; ageing = noUse }
+
+-- ---- the plan of the check, for the code
+
+-- the slot that a request's bucket uses, the bucket after the request, and whether this is within its rate
+unfoldable pub ratePlan : RateBuckets → ℕ → ℕ → ℕ → RatePlan
+ratePlan t invokeId rate time =
+    record {
+      slot = target buckets Last t invokeId;
+      bucket = after newBucket nextBucket (valueOf buckets t invokeId) (rate, time);
+      allowed = withinRate (valueOf buckets t invokeId) (rate, time);
+    }

@@ -1,6 +1,6 @@
 -- SV streams (01, "Remembered tables": keyed by svID, last count c).
 use Prim.Native.Nat.{ℕ, _-_}
-use mathlib.Core.Bool.{Bool, _&&_, cond}
+use mathlib.Core.Bool.{Bool, cond}
 use mathlib.Core.List.{List}
 use mathlib.Core.Option.{Option, none, some}
 use lib.Dec.{eqb, ltb, leb}
@@ -11,8 +11,8 @@ use Rattle.records.specs.declared.search.Found.{Found}
 use Rattle.records.specs.Ageing.{newSlot, noUse, usedAt}
 use Rattle.records.specs.Name.{nameOf, sameName, hasName, withName, noNames}
 use Rattle.records.specs.Remembered.{after}
-use Rattle.records.specs.Search.{first, slotOr, isFound}
-use Rattle.records.specs.Table.{Columns, inUse, valueAt, valueOf, stepped}
+use Rattle.records.specs.Search.{firstUsed, slotOr, isFound}
+use Rattle.records.specs.Table.{Columns, valueAt, valueOf, stepped}
 use Rattle.inspection.specs.declared.sv_seq.SvSeqTable.{SvSeqTable}
 use Rattle.inspection.specs.declared.sv_seq.SvSeqOutcome.{SvSeqOutcome}
 use Rattle.inspection.specs.declared.sv_seq.SvSeqOutcome.the-variants.{FirstSeen, Replay, ForwardGap, CycleWrap, SuspiciousSmpGap}
@@ -85,6 +85,13 @@ svChecked t svid n =
 abbrev pub noSvStreams : SvSeqTable
 noSvStreams = record { svid = noNames; «last_smp_cnt» = replicate 16 0; ageing = noUse }
 
+-- ---- the plan of the check, for the code
+
+-- a table of these columns
+abbrev pub svTableOf : List ℕ → List ℕ → List ℕ → List Bool → List ℕ → ℕ → SvSeqTable
+svTableOf octets lens counts active used tick =
+    record { svid = record { octets = octets; lens = lens }; «last_smp_cnt» = counts; ageing = record { active = active; «last_used» = used; tick = tick } }
+
 -- what a frame will use and store, from the slot that its svID was found in: the slot, whether it has the svID already, the count, and
 -- what the count says
 abbrev pub svPlanAt : SvSeqTable → ℕ → Found → SvPlan
@@ -99,4 +106,4 @@ svPlanAt t n found =
 -- the same from the svID as it is kept: 64 octets, zeros behind its end, and its length
 unfoldable pub svPlan : SvSeqTable → List ℕ → ℕ → ℕ → SvPlan
 svPlan t octets len n =
-    svPlanAt t n (first (λ i. inUse (t .ageing) i && sameName (t .svid .octets) (t .svid .lens) i octets len))
+    svPlanAt t n (firstUsed (t .ageing .active) (λ i. sameName (t .svid .octets) (t .svid .lens) i octets len))

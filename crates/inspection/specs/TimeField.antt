@@ -39,10 +39,6 @@ abbrev pub clockAlert : ℕ → Option (ℕ × ℕ) → ℕ × ℕ → Bool
 clockAlert limit none pair = false
 clockAlert limit (some kept) pair = earlier pair kept || (ltb 0 limit && ltb limit (pair .0 - kept .0))
 
--- the slot that a frame's clock uses, and whether its pair alerts
-unfoldable pub timePlan : TimeTrackers → ℕ → ℕ → ℕ × ℕ → TimePlan
-timePlan t limit address pair = record { slot = target clocks First t address; alert = clockAlert limit (valueOf clocks t address) pair }
-
 -- the clocks after a frame, and whether its pair alerts; either way the new pair is kept
 unfoldable pub timeChecked : TimeTrackers → ℕ → ℕ → ℕ × ℕ → TimeChecked
 timeChecked t limit address pair =
@@ -57,3 +53,9 @@ timeChecked t limit address pair =
 abbrev pub noClocks : TimeTrackers
 noClocks =
     record { «src_mac» = replicate 16 0; «last_t_seconds» = replicate 16 0; «last_t_fraction» = replicate 16 0; ageing = noUse }
+
+-- ---- the plan of the check, for the code
+
+-- the slot that a frame's clock uses, and whether its pair alerts
+unfoldable pub timePlan : TimeTrackers → ℕ → ℕ → ℕ × ℕ → TimePlan
+timePlan t limit address pair = record { slot = target clocks First t address; alert = clockAlert limit (valueOf clocks t address) pair }

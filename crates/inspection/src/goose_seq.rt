@@ -1,10 +1,10 @@
 // GOOSE streams, carried over from industrial/iec61850-monitor/src/lib.rs of craton-shield a31d888527 (Apache-2.0) and changed:
 // a column for each field; no flag for a stream without numbers, since there is none.
 ghost use mathlib.Core.Path.{_≡_};
-ghost use mathlib.Core.List.{List};
-ghost use Prim.Native.Nat.{ℕ, min, _-_, _^_};
+ghost use mathlib.Core.List.{[]};
+ghost use Prim.Native.Nat.{min, _-_, _^_};
 ghost use Rattle.records.specs.Search.{firstUsed};
-ghost use Rattle.inspection.specs.GooseSeq.{hasStream, noGooseStreams, replays, outsideTolerance, retxChecked, gooseChecked, goosePlanOf, goosePlan};
+ghost use Rattle.inspection.specs.GooseSeq.{hasStream, noGooseStreams, replays, outsideTolerance, retxChecked, gooseChecked, gooseTableOf, goosePlanOf, goosePlan};
 use records::ageing::Ageing;
 use records::ageing::EqualAges;
 use records::ageing::next_tick;
@@ -155,7 +155,7 @@ pub fn retx_anomaly<'a>(
     sq_num: u32,
     now_us: u64,
 ) -> bool
-    ensures { λ r. ⌜ ((lastUsed : List ℕ) (tick : ℕ) → r ≡ retxChecked enforce schedule (record { «src_mac» = now («src_macs» .entry); «go_cb_ref_hash» = now (hashes .entry); «last_st_num» = now («last_st_num» .entry); «last_sq_num» = now («last_sq_num» .entry); «last_seen_us» = now («last_seen_us» .entry); ageing = record { active = now (active .entry); «last_used» = lastUsed; tick = tick } }) («src_mac», «go_cb_ref_hash») ((«st_num», «sq_num»), «now_us»)) ⌝ }
+    ensures { λ r. ⌜ r ≡ retxChecked enforce schedule (gooseTableOf (now («src_macs» .entry)) (now (hashes .entry)) (now («last_st_num» .entry)) (now («last_sq_num» .entry)) (now («last_seen_us» .entry)) (now (active .entry)) [] 0) («src_mac», «go_cb_ref_hash») ((«st_num», «sq_num»), «now_us») ⌝ }
 {
     if !enforce {
         return false;
@@ -193,7 +193,7 @@ fn goose_plan<'a>(
     sq_num: u32,
     now_us: u64,
 ) -> GoosePlan
-    ensures { λ r. ⌜ r ≡ goosePlan (record { «src_mac» = now («src_macs» .entry); «go_cb_ref_hash» = now (hashes .entry); «last_st_num» = now («last_st_num» .entry); «last_sq_num» = now («last_sq_num» .entry); «last_seen_us» = now («last_seen_us» .entry); ageing = record { active = now (active .entry); «last_used» = now («last_used» .entry); tick = tick } }) («src_mac», «go_cb_ref_hash») ((«st_num», «sq_num»), «now_us») ⌝ }
+    ensures { λ r. ⌜ r ≡ goosePlan (gooseTableOf (now («src_macs» .entry)) (now (hashes .entry)) (now («last_st_num» .entry)) (now («last_sq_num» .entry)) (now («last_seen_us» .entry)) (now (active .entry)) (now («last_used» .entry)) tick) («src_mac», «go_cb_ref_hash») ((«st_num», «sq_num»), «now_us») ⌝ }
 {
     let Found::At(slot) = find_goose_seq(src_macs, hashes, active, src_mac, go_cb_ref_hash) else {
         let taken = slot_for(active, last_used, next_tick(tick), EqualAges::First);

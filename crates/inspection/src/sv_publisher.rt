@@ -37,7 +37,7 @@ impl SvPublishers {
 }
 
 // What an svID that no rule fits is: registered with another address, or not at all.
-pub fn unfit(registered: bool) -> PublisherMatch
+pub fn not_fitting(registered: bool) -> PublisherMatch
     ensures { λ r. ⌜ r ≡ notFitting registered ⌝ }
 {
     if registered {
@@ -48,12 +48,12 @@ pub fn unfit(registered: bool) -> PublisherMatch
 }
 
 // The last place that fits, or why there is none.
-pub fn publisher_at(registered: bool, place: Found) -> PublisherMatch
+pub fn match_at(registered: bool, place: Found) -> PublisherMatch
     ensures { λ r. ⌜ r ≡ matchAt registered place ⌝ }
 {
     match place {
         Found::At(i) => PublisherMatch::Fits(i),
-        Found::Nothing => unfit(registered),
+        Found::Nothing => not_fitting(registered),
     }
 }
 
@@ -82,5 +82,5 @@ pub fn sv_publisher<'a>(
         }
         i += 1;
     }
-    publisher_at(registered, place)
+    match_at(registered, place)
 }

@@ -3,7 +3,7 @@
 ghost use mathlib.Core.Path.{_≡_};
 ghost use Rattle.records.specs.Name.{sameName, nameOf};
 ghost use Rattle.records.specs.Search.{firstUsed};
-ghost use Rattle.inspection.specs.SvSeq.{noSvStreams, countOutcome, outcomeNumber, isReplay, svChecked, svPlan};
+ghost use Rattle.inspection.specs.SvSeq.{noSvStreams, countOutcome, outcomeNumber, isReplay, svChecked, svTableOf, svPlan};
 use records::ageing::Ageing;
 use records::ageing::EqualAges;
 use records::ageing::next_tick;
@@ -135,7 +135,7 @@ fn sv_plan<'a>(
     svid_len: u8,
     smp_cnt: u16,
 ) -> SvPlan
-    ensures { λ r. ⌜ r ≡ svPlan (record { svid = record { octets = now (octets .entry); lens = now (lens .entry) }; «last_smp_cnt» = now («last_smp_cnt» .entry); ageing = record { active = now (active .entry); «last_used» = now («last_used» .entry); tick = tick } }) (now (svid .entry)) «svid_len» «smp_cnt» ⌝ }
+    ensures { λ r. ⌜ r ≡ svPlan (svTableOf (now (octets .entry)) (now (lens .entry)) (now («last_smp_cnt» .entry)) (now (active .entry)) (now («last_used» .entry)) tick) (now (svid .entry)) «svid_len» «smp_cnt» ⌝ }
 {
     let Found::At(slot) = find_sv_seq(octets, lens, active, svid, svid_len) else {
         return SvPlan {

@@ -1,6 +1,6 @@
 -- Names as the keys of a table: a slot has the name whose octets it holds, if zeros stand behind it.
 use Prim.Native.Nat.{ℕ, _+_, _*_, _≤_, _<_}
-use mathlib.Core.Bool.{true, cond}
+use mathlib.Core.Bool.{true}
 use mathlib.Core.List.{List}
 use mathlib.Core.Logic.{_≢_, _↔_, by-cases}
 use mathlib.Core.Path.{_≡_, refl, sym, ap, _∙_}
@@ -14,7 +14,7 @@ use Rattle.records.proofs.Booleans.{cond-yes, and-both}
 use Rattle.records.proofs.Lists.{getD-constant}
 use Rattle.records.proofs.NameLaws.{length-tabulate, tabulate-at, tabulate-same, padded-at, agree-at, agree-all, length-overwritten, stored-here, stored-elsewhere}
 use Rattle.records.specs.declared.name.Names.{Names}
-use Rattle.records.specs.Name.{tabulate, octetAt, padded, agree, sameOctets, sameName, octetsStored, noNames, nameStored, hasName, withName}
+use Rattle.records.specs.Name.{tabulate, octetAt, padded, sameOctets, sameName, octetsStored, noNames, nameStored, hasName, withName}
 
 -- the name in a slot
 abbrev pub nameAt : Names → ℕ → List ℕ

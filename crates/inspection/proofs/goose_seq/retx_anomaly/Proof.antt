@@ -9,7 +9,7 @@ use Rattle.inspection.proofs.goose_seq.retx_anomaly.Statement.{statemen
 use Rattle.inspection.proofs.goose_seq.retx_anomaly.Tie as tie
 
 returns : tie.Need-returns
-returns c lastUsed tick = retx-not-enforced _ _ _ _ _ (not-true _ (c .if1 .taken))
+returns c = retx-not-enforced _ _ _ _ _ (not-true _ (c .if1 .taken))
 
 find-goose-seq-requires : tie.Need-find-goose-seq-requires
 find-goose-seq-requires c κs = search needs
@@ -21,7 +21,7 @@ enum-told : tie.Need-enum-told
 enum-told c = search needs
 
 returns-2 : tie.Need-returns-2
-returns-2 c lastUsed tick = retx-unknown _ _ _ (c .before .before .find-goose-seq .ensures) (c .enum-told .given .1) _ _
+returns-2 c = retx-unknown _ _ _ (c .before .before .find-goose-seq .ensures) (c .enum-told .given .1) _ _
 
 slot-below : (c : tie.After-slot) → c .slot .given .0 .0 < 16
 slot-below c = found-below _ (c .before .before .find-goose-seq .ensures) (c .slot .given .1)
@@ -48,7 +48,7 @@ outside-tolerance-requires : tie.Need-outside-tolerance-requires
 outside-tolerance-requires c κs = search needs
 
 returns-3 : tie.Need-returns-3
-returns-3 c lastUsed tick =
+returns-3 c =
     retx-known _ _ _ (c .before .before .before .before .before .before .before .find-goose-seq .ensures) (c .before .before .before .before .before .slot .given .1) _ _
     (not-false _ (c .before .before .before .before .before .before .before .before .if1 .left)) (c .outside-tolerance .ensures)
 

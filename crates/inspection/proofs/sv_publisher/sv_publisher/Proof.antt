@@ -9,13 +9,13 @@ use lib.Dec.{eqb}
 use lib.ListN.{getD}
 use Rattle.records.specs.Name.{sameName}
 use Rattle.inspection.specs.Rules.{ruleCount}
-use Rattle.inspection.proofs.SvPublisherLaws.{Told, told-none, told-fits, told-wrong, told-other, told-all}
+use Rattle.inspection.proofs.SvPublisherLaws.{Compared, compared-none, compared-fits, compared-wrong, compared-other, compared-all}
 use Rattle.inspection.proofs.sv_publisher.sv_publisher.Statement.{statement}
 use Rattle.inspection.proofs.sv_publisher.sv_publisher.Tie as tie
 
 abbrev Inv-loop : tie.InvT-loop
 Inv-loop macs octets lens count mac svid len n registered₀ place₀ i₀ registered place i =
-    (i ≤ n) × (n ≡ ruleCount count) × Told (λ j. sameName octets lens j svid len) (λ j. eqb (getD macs j 0) mac) i registered place
+    (i ≤ n) × (n ≡ ruleCount count) × Compared (λ j. sameName octets lens j svid len) (λ j. eqb (getD macs j 0) mac) i registered place
 
 abbrev μ-loop : tie.MeasureT-loop
 μ-loop macs octets lens count mac svid len n registered₀ place₀ i₀ registered place i = n - i
@@ -24,7 +24,7 @@ rule-count-requires : tie.Need-rule-count-requires Inv-loop μ-loop
 rule-count-requires c κs = search needs
 
 loop-holds : tie.Need-loop-holds Inv-loop μ-loop
-loop-holds c = (omega arith, c .rule-count .ensures, told-none _ _)
+loop-holds c = (omega arith, c .rule-count .ensures, compared-none _ _)
 
 same-name-requires : tie.Need-same-name-requires Inv-loop μ-loop
 same-name-requires c κs = search needs
@@ -47,18 +47,18 @@ loop-again c =
     let same = c .before .same-name .ensures in (
       omega arith,
       l .inv .1,
-      ⊎-elim (λ w. told-fits _ _ (l .inv .2) same (w .0 .taken) (eq-eqb _ _ (w .2 .taken)) (w .3) (w .4))
-          (⊎-elim (λ w. told-wrong _ _ (l .inv .2) same (w .0 .taken) (ne-eqb _ _ (w .2 .left)) (w .3) (w .4))
-          (λ w. told-other _ _ (l .inv .2) same (w .0 .left) (w .1) (w .2))) (c .if1 .came),
+      ⊎-elim (λ w. compared-fits _ _ (l .inv .2) same (w .0 .taken) (eq-eqb _ _ (w .2 .taken)) (w .3) (w .4))
+          (⊎-elim (λ w. compared-wrong _ _ (l .inv .2) same (w .0 .taken) (ne-eqb _ _ (w .2 .left)) (w .3) (w .4))
+          (λ w. compared-other _ _ (l .inv .2) same (w .0 .left) (w .1) (w .2))) (c .if1 .came),
     )
 
-publisher-at-requires : tie.Need-publisher-at-requires Inv-loop μ-loop
-publisher-at-requires c κs = search needs
+match-at-requires : tie.Need-match-at-requires Inv-loop μ-loop
+match-at-requires c κs = search needs
 
 returns : tie.Need-returns Inv-loop μ-loop
 returns c =
     let l = c .before .before .loop in
-    c .publisher-at .ensures ∙ told-all _ _ (l .inv .2) (omega arith)
+    c .match-at .ensures ∙ compared-all _ _ (l .inv .2) (omega arith)
 
 pub sv-publisher-spec : {M : Type 1} → statement M
 sv-publisher-spec =
@@ -74,5 +74,5 @@ sv-publisher-spec =
     add-i
     loop-less
     loop-again
-    publisher-at-requires
+    match-at-requires
     returns)
