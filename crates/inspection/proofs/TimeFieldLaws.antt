@@ -1,4 +1,4 @@
--- Laws of clocks: when a pair alerts, a store past the end, the ways that a plan is made, and a plan carried out.
+-- Laws of clocks: when a pair alerts, the ways that a plan is made, its slot, and a plan carried out.
 use Prim.Native.Nat.{ℕ, _-_, _≤_, _<_}
 use mathlib.Core.Bool.{Bool, true, false}
 use mathlib.Core.Option.{Option, none, some}
@@ -6,17 +6,16 @@ use mathlib.Core.Path.{_≡_, refl, sym, _∙_, ap}
 use native.Mathlib.Omega.{arith}
 use borrow.Author.Tests.{lt-ltb, le-ltb, eq-eqb, ne-eqb}
 use lib.Dec.{ltb}
-use lib.ListN.{length}
-use lib.Seq.{set-out}
+use lib.ListN.{set}
 use Rattle.records.specs.declared.ageing.Ageing.{Ageing}
 use Rattle.records.specs.declared.ageing.EqualAges.the-variants.{First}
 use Rattle.records.specs.declared.search.Found.{Found}
 use Rattle.records.specs.declared.search.Found.the-variants.{At, Nothing}
 use Rattle.records.specs.Ageing.{nextTick, slotFor, usedAt}
 use Rattle.records.specs.Remembered.{after}
-use Rattle.records.specs.Table.{slotOf, valueOf, target}
-use Rattle.records.proofs.Booleans.{and-false, or-false, cond-yes, cond-no, answered}
-use Rattle.records.proofs.TableLaws.{target-found, value-found, target-new, value-new}
+use Rattle.records.specs.Table.{slotOf, valueOf}
+use Rattle.records.proofs.Booleans.{and-false, or-false, answered}
+use Rattle.records.proofs.TableLaws.{target-found, value-found, target-new, value-new, target-below}
 use Rattle.inspection.specs.declared.time_field.TimeTrackers.{TimeTrackers}
 use Rattle.inspection.specs.declared.time_field.TimePlan.{TimePlan}
 use Rattle.inspection.specs.TimeField.{clocks, hasClock, earlier, clockAlert, timePlan, timeChecked}
@@ -50,21 +49,6 @@ module _ (limit keptSeconds keptFraction seconds fraction : ℕ) where
     unfolding earlier
     alert-ahead l = rw (le-ltb seconds keptSeconds h, ne-eqb seconds keptSeconds n, lt-ltb 0 limit (omega arith))
 
--- a slot of 16 or more has no columns to change
-pub store-past :
-    (t : TimeTrackers) (slot address : ℕ) (pair : ℕ × ℕ) {used : Ageing} → length (t .«src_mac») ≡ 16 → length (t .«last_t_seconds») ≡ 16
-    → length (t .«last_t_fraction») ≡ 16 → 16 ≤ slot → used ≡ usedAt (t .ageing) slot
-    → record { «src_mac» = t .«src_mac»; «last_t_seconds» = t .«last_t_seconds»; «last_t_fraction» = t .«last_t_fraction»; ageing = used }
-    ≡ clocks .store t slot address pair
-store-past t slot address pair m n l h u =
-    sym
-    (λ i. record {
-      «src_mac» = set-out (t .«src_mac») slot address (omega arith) i;
-      «last_t_seconds» = set-out (t .«last_t_seconds») slot (pair .0) (omega arith) i;
-      «last_t_fraction» = set-out (t .«last_t_fraction») slot (pair .1) (omega arith) i;
-      ageing = sym u i;
-    })
-
 -- a new clock and a known one keep the frame's pair
 pair-kept : (known : Option (ℕ × ℕ)) (pair : ℕ × ℕ) → pair ≡ after (λ i. i) (λ kept i. i) known pair
 pair-kept none pair = refl
@@ -92,17 +76,26 @@ module _ (t : TimeTrackers) (limit address : ℕ) (pair : ℕ × ℕ) where
           alert = ap (λ kept. clockAlert limit kept pair) (value-new clocks t address s e) j;
         }
 
+  pub plan-below : {plan : TimePlan} → plan ≡ timePlan t limit address pair → plan .slot < 16
+  unfolding timePlan
+  plan-below p = rw p (target-below clocks First t address)
+
   module _ {has : Bool} (h : has ≡ hasClock pair) where
     pub without-clock : has ≡ false → record { table = t; alert = false } ≡ timeChecked t limit address pair
     unfolding timeChecked
-    without-clock v = sym (cond-no _ _ (answered h v))
+    without-clock v = rw (answered h v)
 
     pub plan-carried-out :
-        {plan : TimePlan} {table : TimeTrackers} → has ≡ true → plan ≡ timePlan t limit address pair
-        → table ≡ clocks .store t (plan .slot) address pair → record { table = table; alert = plan .alert } ≡ timeChecked t limit address pair
+        {plan : TimePlan} {used : Ageing} → has ≡ true → plan ≡ timePlan t limit address pair → used ≡ usedAt (t .ageing) (plan .slot)
+        → record {
+          table = record {
+            «src_mac» = set (t .«src_mac») (plan .slot) address;
+            «last_t_seconds» = set (t .«last_t_seconds») (plan .slot) (pair .0);
+            «last_t_fraction» = set (t .«last_t_fraction») (plan .slot) (pair .1);
+            ageing = used;
+          };
+          alert = plan .alert;
+        }
+        ≡ timeChecked t limit address pair
     unfolding timeChecked timePlan
-    plan-carried-out v p s =
-        let stored : ℕ → ℕ × ℕ → TimeTrackers = λ slot kept. clocks .store t slot address kept in
-        let plans = s ∙ ap (λ (plan : TimePlan). stored (plan .slot) pair) p in
-        let kept = ap (stored (target clocks First t address)) (pair-kept (valueOf clocks t address) pair) in
-        (λ i. record { table = (plans ∙ kept) i; alert = p i .alert }) ∙ sym (cond-yes _ _ (answered h v))
+    plan-carried-out v p u = rw (u, p, ← pair-kept (valueOf clocks t address) pair, answered h v)

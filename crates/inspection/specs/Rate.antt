@@ -1,6 +1,7 @@
 -- Rates (01, "Bucket": the key is the invoke id; an existing bucket keeps its capacity).
 use Prim.Native.Nat.{ℕ}
 use mathlib.Core.Bool.{Bool, true}
+use mathlib.Core.List.{List}
 use mathlib.Core.Option.{Option, none, some}
 use lib.ListN.{getD, set, replicate}
 use Rattle.records.specs.declared.ageing.EqualAges.the-variants.{Last}
@@ -59,6 +60,17 @@ noBuckets =
     record { key = replicate 16 0; tokens = replicate 16 0; capacity = replicate 16 0; «last_refill_us» = replicate 16 0; ageing = noUse }
 
 -- ---- the plan of the check, for the code
+
+-- a table of these columns
+abbrev pub bucketTableOf : List ℕ → List ℕ → List ℕ → List ℕ → List Bool → List ℕ → ℕ → RateBuckets
+bucketTableOf keys tokens capacities refilled active used tick =
+    record {
+      key = keys;
+      tokens = tokens;
+      capacity = capacities;
+      «last_refill_us» = refilled;
+      ageing = record { active = active; «last_used» = used; tick = tick };
+    }
 
 -- the slot that a request's bucket uses, the bucket after the request, and whether this is within its rate
 unfoldable pub ratePlan : RateBuckets → ℕ → ℕ → ℕ → RatePlan

@@ -1,6 +1,7 @@
 -- Clocks (01, "Remembered tables": keyed by address, shared by GOOSE and SV).
 use Prim.Native.Nat.{ℕ, _-_}
 use mathlib.Core.Bool.{Bool, false, _&&_, _||_, not, cond}
+use mathlib.Core.List.{List}
 use mathlib.Core.Option.{Option, none, some}
 use lib.Dec.{eqb, ltb}
 use lib.ListN.{getD, set, replicate}
@@ -55,6 +56,16 @@ noClocks =
     record { «src_mac» = replicate 16 0; «last_t_seconds» = replicate 16 0; «last_t_fraction» = replicate 16 0; ageing = noUse }
 
 -- ---- the plan of the check, for the code
+
+-- a table of these columns
+abbrev pub clockTableOf : List ℕ → List ℕ → List ℕ → List Bool → List ℕ → ℕ → TimeTrackers
+clockTableOf addresses seconds fractions active used tick =
+    record {
+      «src_mac» = addresses;
+      «last_t_seconds» = seconds;
+      «last_t_fraction» = fractions;
+      ageing = record { active = active; «last_used» = used; tick = tick };
+    }
 
 -- the slot that a frame's clock uses, and whether its pair alerts
 unfoldable pub timePlan : TimeTrackers → ℕ → ℕ → ℕ × ℕ → TimePlan

@@ -29,7 +29,7 @@ impl GoosePublishers {
 }
 
 // Whether the rule at a place, of this address and name length, fits an address and a control block's name.
-pub fn rule_fits<'a>(
+fn rule_fits<'a>(
     rule_mac: u64,
     rule_len: u8,
     octets: &'a [u8; 1024],

@@ -178,7 +178,7 @@ pub fn retx_anomaly<'a>(
 }
 
 // What a frame will use and store; a replay keeps the last numbers and time.
-fn goose_plan<'a>(
+pub fn goose_plan<'a>(
     src_macs: &'a [u64; 16],
     hashes: &'a [u32; 16],
     last_st_num: &'a [u32; 16],

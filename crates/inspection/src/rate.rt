@@ -2,7 +2,7 @@
 // (Apache-2.0) and changed: a column for each field.
 ghost use mathlib.Core.Path.{_≡_};
 ghost use Rattle.records.specs.Search.{firstUsed, hasNumber};
-ghost use Rattle.inspection.specs.Rate.{noBuckets, buckets, ratePlan, rateChecked};
+ghost use Rattle.inspection.specs.Rate.{noBuckets, bucketTableOf, ratePlan, rateChecked};
 use records::ageing::Ageing;
 use records::ageing::EqualAges;
 use records::ageing::next_tick;
@@ -45,26 +45,10 @@ impl RateBuckets {
             ageing: ageing,
         }
     }
-
-    // After a bucket is stored in a slot with its key, which is a use of the slot; a slot of 16 or more changes nothing.
-    fn stored(self, slot: usize, key: u32, bucket: RateBucket) -> Self
-        ensures { λ r. ⌜ r ≡ buckets .store self slot key bucket ⌝ }
-    {
-        let mut out = self;
-        out.ageing = self.ageing.used(slot);
-        if slot >= 16 {
-            return out;
-        }
-        out.key[slot] = key;
-        out.tokens[slot] = bucket.tokens;
-        out.capacity[slot] = bucket.capacity;
-        out.last_refill_us[slot] = bucket.last_refill_us;
-        out
-    }
 }
 
 // The slot in use of a key.
-fn find_bucket<'a>(keys: &'a [u32; 16], active: &'a [bool; 16], key: u32) -> Found
+pub fn find_bucket<'a>(keys: &'a [u32; 16], active: &'a [bool; 16], key: u32) -> Found
     ensures { λ r. ⌜ r ≡ firstUsed (now (active .entry)) (hasNumber (now (keys .entry)) key) ⌝ }
 {
     let mut i: usize = 0;
@@ -80,7 +64,7 @@ fn find_bucket<'a>(keys: &'a [u32; 16], active: &'a [bool; 16], key: u32) -> Fou
 }
 
 // What a request does to the columns of the buckets.
-fn rate_plan<'a>(
+pub fn rate_plan<'a>(
     keys: &'a [u32; 16],
     tokens: &'a [u16; 16],
     capacity: &'a [u16; 16],
@@ -93,7 +77,7 @@ fn rate_plan<'a>(
     now_us: u64,
 ) -> RatePlan
     ensures { λ r.
-        ⌜ r ≡ ratePlan (record { key = now (keys .entry); tokens = now (tokens .entry); capacity = now (capacity .entry); «last_refill_us» = now («last_refill_us» .entry); ageing = record { active = now (active .entry); «last_used» = now («last_used» .entry); tick = tick } }) key «max_rate» «now_us» ⌝ }
+        ⌜ r ≡ ratePlan (bucketTableOf (now (keys .entry)) (now (tokens .entry)) (now (capacity .entry)) (now («last_refill_us» .entry)) (now (active .entry)) (now («last_used» .entry)) tick) key «max_rate» «now_us» ⌝ }
 {
     match find_bucket(keys, active, key) {
         Found::At(i) => {
@@ -136,7 +120,12 @@ pub fn rate_check(t: RateBuckets, key: u32, max_rate: u16, now_us: u64) -> RateC
         max_rate,
         now_us,
     );
-    out = out.stored(plan.slot, key, plan.bucket);
+    let slot = plan.slot;
+    out.key[slot] = key;
+    out.tokens[slot] = plan.bucket.tokens;
+    out.capacity[slot] = plan.bucket.capacity;
+    out.last_refill_us[slot] = plan.bucket.last_refill_us;
+    out.ageing = out.ageing.used(slot);
     RateChecked {
         table: out,
         allowed: plan.allowed,

@@ -51,14 +51,14 @@ impl CbReservations {
 }
 
 // Whether two kinds are the same.
-pub fn same_kind(a: bool, b: bool) -> bool
+fn same_kind(a: bool, b: bool) -> bool
     ensures { λ r. ⌜ r ≡ sameKind a b ⌝ }
 {
     if a { b } else { !b }
 }
 
 // Whether a slot holds the reservation of a name and kind.
-pub fn reserves<'a>(
+fn reserves<'a>(
     octets: &'a [u8; 1024],
     lens: &'a [u8; 16],
     kinds: &'a [bool; 16],
@@ -153,7 +153,7 @@ pub fn place_for<'a>(
 }
 
 // Frees the slots of a client.
-pub fn free_of_client<'a>(active: &'a mut [bool; 16], owners: &'a [u32; 16], client_id: u32)
+fn free_of_client<'a>(active: &'a mut [bool; 16], owners: &'a [u32; 16], client_id: u32)
     ensures { λ _. ⌜ now (active .exit) ≡ freedBelow (hasNumber (now (owners .entry)) «client_id») (now (active .entry)) 16 ⌝ }
 {
     let mut i: usize = 0;
@@ -244,28 +244,35 @@ pub fn release_cb(
 }
 
 // The first address to use the reservation at a place is bound, another is a hijack; a place of 16 or more changes nothing.
-pub fn used_by(t: CbReservations, place: Found, src_mac: u64) -> CbChecked
+fn used_by(t: CbReservations, place: Found, src_mac: u64) -> CbChecked
     ensures { λ r. ⌜ r ≡ usedBy t «src_mac» place ⌝ }
 {
-    let mut checked = CbChecked {
-        table: t,
-        hijack: false,
-    };
+    let mut out = t;
     let Found::At(i) = place else {
-        return checked;
+        return CbChecked {
+            table: out,
+            hijack: false,
+        };
     };
     if i >= 16 {
-        return checked;
+        return CbChecked {
+            table: out,
+            hijack: false,
+        };
     }
-    let mut out = t;
     if out.bound[i] {
-        checked.hijack = out.bound_src_mac[i] != src_mac;
-        return checked;
+        let hijack = out.bound_src_mac[i] != src_mac;
+        return CbChecked {
+            table: out,
+            hijack: hijack,
+        };
     }
     out.bound[i] = true;
     out.bound_src_mac[i] = src_mac;
-    checked.table = out;
-    checked
+    CbChecked {
+        table: out,
+        hijack: false,
+    }
 }
 
 // The use of a control block by a frame; an empty name is never looked up.
@@ -286,15 +293,14 @@ pub fn cb_hijack_check(
         };
     }
     let name = padded(&cb_ref, len);
-    let out = t;
     let place = find_reservation(
-        &out.cb_ref.octets,
-        &out.cb_ref.lens,
-        &out.is_goose,
-        &out.active,
+        &t.cb_ref.octets,
+        &t.cb_ref.lens,
+        &t.is_goose,
+        &t.active,
         &name,
         len,
         is_goose,
     );
-    used_by(out, place, src_mac)
+    used_by(t, place, src_mac)
 }

@@ -37,7 +37,7 @@ impl SvPublishers {
 }
 
 // What an svID that no rule fits is: registered with another address, or not at all.
-pub fn not_fitting(registered: bool) -> PublisherMatch
+fn not_fitting(registered: bool) -> PublisherMatch
     ensures { λ r. ⌜ r ≡ notFitting registered ⌝ }
 {
     if registered {
@@ -48,7 +48,7 @@ pub fn not_fitting(registered: bool) -> PublisherMatch
 }
 
 // The last place that fits, or why there is none.
-pub fn match_at(registered: bool, place: Found) -> PublisherMatch
+fn match_at(registered: bool, place: Found) -> PublisherMatch
     ensures { λ r. ⌜ r ≡ matchAt registered place ⌝ }
 {
     match place {

@@ -124,7 +124,7 @@ pub fn find_sv_seq<'a>(
 }
 
 // What a frame will use and store; a replay keeps the last count.
-fn sv_plan<'a>(
+pub fn sv_plan<'a>(
     octets: &'a [u8; 1024],
     lens: &'a [u8; 16],
     last_smp_cnt: &'a [u16; 16],

@@ -3,7 +3,7 @@
 ghost use mathlib.Core.Path.{_≡_};
 ghost use mathlib.Core.Option.{some};
 ghost use Rattle.records.specs.Search.{firstUsed, hasNumber};
-ghost use Rattle.inspection.specs.TimeField.{noClocks, clocks, hasClock, clockAlert, timePlan, timeChecked};
+ghost use Rattle.inspection.specs.TimeField.{noClocks, hasClock, clockAlert, clockTableOf, timePlan, timeChecked};
 use records::ageing::Ageing;
 use records::ageing::EqualAges;
 use records::ageing::next_tick;
@@ -67,7 +67,7 @@ fn clock_alerts(
 }
 
 // The slot in use of an address.
-fn find_clock<'a>(src_macs: &'a [u64; 16], active: &'a [bool; 16], src_mac: u64) -> Found
+pub fn find_clock<'a>(src_macs: &'a [u64; 16], active: &'a [bool; 16], src_mac: u64) -> Found
     ensures { λ r. ⌜ r ≡ firstUsed (now (active .entry)) (hasNumber (now («src_macs» .entry)) «src_mac») ⌝ }
 {
     let mut i: usize = 0;
@@ -82,23 +82,6 @@ fn find_clock<'a>(src_macs: &'a [u64; 16], active: &'a [bool; 16], src_mac: u64)
     }
 }
 
-impl TimeTrackers {
-    // After a pair is stored in a slot with its address, which is a use of the slot; a slot of 16 or more changes nothing.
-    fn stored(self, slot: usize, src_mac: u64, seconds: u32, fraction: u32) -> Self
-        ensures { λ r. ⌜ r ≡ clocks .store self slot «src_mac» (seconds, fraction) ⌝ }
-    {
-        let mut out = self;
-        out.ageing = self.ageing.used(slot);
-        if slot >= 16 {
-            return out;
-        }
-        out.src_mac[slot] = src_mac;
-        out.last_t_seconds[slot] = seconds;
-        out.last_t_fraction[slot] = fraction;
-        out
-    }
-}
-
 // Whether a pair is checked and kept.
 fn has_clock(seconds: u32, fraction: u32) -> bool
     ensures { λ r. ⌜ r ≡ hasClock (seconds, fraction) ⌝ }
@@ -110,7 +93,7 @@ fn has_clock(seconds: u32, fraction: u32) -> bool
 }
 
 // What a frame with a clock does to the columns of the clocks.
-fn time_plan<'a>(
+pub fn time_plan<'a>(
     src_macs: &'a [u64; 16],
     last_t_seconds: &'a [u32; 16],
     last_t_fraction: &'a [u32; 16],
@@ -123,7 +106,7 @@ fn time_plan<'a>(
     fraction: u32,
 ) -> TimePlan
     ensures { λ r.
-        ⌜ r ≡ timePlan (record { «src_mac» = now («src_macs» .entry); «last_t_seconds» = now («last_t_seconds» .entry); «last_t_fraction» = now («last_t_fraction» .entry); ageing = record { active = now (active .entry); «last_used» = now («last_used» .entry); tick = tick } }) limit «src_mac» (seconds, fraction) ⌝ }
+        ⌜ r ≡ timePlan (clockTableOf (now («src_macs» .entry)) (now («last_t_seconds» .entry)) (now («last_t_fraction» .entry)) (now (active .entry)) (now («last_used» .entry)) tick) limit «src_mac» (seconds, fraction) ⌝ }
 {
     match find_clock(src_macs, active, src_mac) {
         Found::At(i) => TimePlan {
@@ -172,7 +155,11 @@ pub fn check_time_field(
         t_secs,
         t_frac,
     );
-    out = out.stored(plan.slot, src_mac, t_secs, t_frac);
+    let slot = plan.slot;
+    out.src_mac[slot] = src_mac;
+    out.last_t_seconds[slot] = t_secs;
+    out.last_t_fraction[slot] = t_frac;
+    out.ageing = out.ageing.used(slot);
     TimeChecked {
         table: out,
         alert: plan.alert,

@@ -17,7 +17,7 @@ returns : tie.Need-returns
 returns c =
     let v = c .before in
     let a = v .before .args in
-    checked-empty (a .t) (a .t2) (a .cb-ref-len) (size (v .before)) (a .is-goose) (v .valid-len .ensures) refl (a .src-mac) (c .if1 .taken)
+    checked-empty (a .t1) (a .t2) (a .cb-ref-len) (size (v .before)) (a .is-goose) (v .valid-len .ensures) refl (a .src-mac) (c .if1 .taken)
 
 padded-requires : tie.Need-padded-requires
 padded-requires c κs = search needs
@@ -36,7 +36,7 @@ returns-2 c =
     let v = i .before in
     let a = v .before .args in
     c .used-by .ensures
-    ∙ checked-found (a .t) (a .t2) (a .cb-ref-len) (size (v .before)) (a .is-goose) (v .valid-len .ensures) (n .padded .ensures) (a .src-mac) (i .if1 .left)
+    ∙ checked-found (a .t1) (a .t2) (a .cb-ref-len) (size (v .before)) (a .is-goose) (v .valid-len .ensures) (n .padded .ensures) (a .src-mac) (i .if1 .left)
     (f .find-reservation .ensures)
 
 pub cb-hijack-check-spec : {M : Type 1} → statement M

@@ -22,11 +22,11 @@ returns-2 c =
 element-copy-out-if2 : tie.Need-element-copy-out-if2
 element-copy-out-if2 c = omega arith
 
-mul-checked : tie.Need-mul-checked
-mul-checked c = omega arith
+mul-hijack : tie.Need-mul-hijack
+mul-hijack c = omega arith
 
-element-copy-out-checked : tie.Need-element-copy-out-checked
-element-copy-out-checked c = omega arith
+element-copy-out-hijack : tie.Need-element-copy-out-hijack
+element-copy-out-hijack c = omega arith
 
 returns-3 : tie.Need-returns-3
 returns-3 c = used-bound _ _ (c .before .before .before .before .before .place .given .1) (c .before .if2 .taken)
@@ -53,8 +53,8 @@ used-by-spec =
     returns
     returns-2
     element-copy-out-if2
-    mul-checked
-    element-copy-out-checked
+    mul-hijack
+    element-copy-out-hijack
     returns-3
     element-write-out
     mul-out
