@@ -1,6 +1,6 @@
 -- Demand 3 holds for histories that mix raw and decoded frames.
 use Prim.Native.Nat.{_+_}
-use mathlib.Core.List.{List, [], _∷_, _++_, map}
+use mathlib.Core.List.{List, [], _∷_, _++_, foldl-append, map}
 use mathlib.Core.Path.{_≡_, refl, sym, ap, _∙_}
 use Rattle.records.specs.declared.frame.SvFrame.{SvFrame}
 use Rattle.records.specs.Legal.{LegalSv}
@@ -37,10 +37,6 @@ answered-is m (raw octets time) = go (svFrame octets time .answer) (svFrame octe
 
 -- ---- lists of them
 
-after-append : (m : Iec61850Monitor) (h k : List Inspection) → afterHistory m (h ++ k) ≡ afterHistory (afterHistory m h) k
-after-append m [] k = refl
-after-append m (x ∷ h) k = after-append (inspect m x .monitor) h k
-
 answers-append : (m : Iec61850Monitor) (h k : List Inspection) → answers m (h ++ k) ≡ answers m h ++ answers (afterHistory m h) k
 answers-append m [] k = refl
 answers-append m (x ∷ h) k = ap (λ (r : List Answer). answerOf (inspect m x .result) ∷ r) (answers-append (inspect m x .monitor) h k)
@@ -48,7 +44,7 @@ answers-append m (x ∷ h) k = ap (λ (r : List Answer). answerOf (inspect m x .
 pub after-arrivals : (m : Iec61850Monitor) (a : List Arrival) → afterArrivals m a ≡ afterHistory m (inspections a)
 after-arrivals m [] = refl
 after-arrivals m (x ∷ a) =
-    after-arrivals (arrived m x) a ∙ ap (λ (n : Iec61850Monitor). afterHistory n (inspections a)) (arrived-is m x) ∙ sym (after-append m (inspectionOf x) (inspections a))
+    after-arrivals (arrived m x) a ∙ ap (λ (n : Iec61850Monitor). afterHistory n (inspections a)) (arrived-is m x) ∙ sym (foldl-append (λ m x. inspect m x .monitor) m (inspectionOf x) (inspections a))
 
 pub arrival-answers : (m : Iec61850Monitor) (a : List Arrival) → arrivalAnswers m a ≡ answers m (inspections a)
 arrival-answers m [] = refl

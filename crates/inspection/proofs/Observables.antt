@@ -88,23 +88,23 @@ module _ (gap : ℕ) where
   sv-none c e = let z : _≡_ {A = ℕ} 0 26 = e in omega arith
 
   -- a count that is a replay of the one value and not of the other
-  pub told : (o o′ : Option ℕ) (n : ℕ) → firstCode (svAnswer gap o n) ≡ 26 → firstCode (svAnswer gap o′ n) ≢ 26 → svAnswer gap o n ≢ svAnswer gap o′ n
-  told o o′ n e d q = d (ap firstCode (sym q) ∙ e)
+  pub sv-told : (o o′ : Option ℕ) (n : ℕ) → firstCode (svAnswer gap o n) ≡ 26 → firstCode (svAnswer gap o′ n) ≢ 26 → svAnswer gap o n ≢ svAnswer gap o′ n
+  sv-told o o′ n e d q = d (ap firstCode (sym q) ∙ e)
 
   abbrev pub Count : ℕ → Type 0
   Count n = n < 2 ^ 16
 
   unfoldable pub sv-separating : (o o′ : Option ℕ) → Holding Count o → Holding Count o′ → o ≢ o′ → (n : ℕ) × Count n × (svAnswer gap o n ≢ svAnswer gap o′ n)
   sv-separating none none h h′ d = absurd (d refl)
-  sv-separating none (some c) h h′ d = (c, h′, λ q. told (some c) none c (sv-same c) (sv-none c) (sym q))
-  sv-separating (some c) none h h′ d = (c, h, told (some c) none c (sv-same c) (sv-none c))
+  sv-separating none (some c) h h′ d = (c, h′, λ q. sv-told (some c) none c (sv-same c) (sv-none c) (sym q))
+  sv-separating (some c) none h h′ d = (c, h, sv-told (some c) none c (sv-same c) (sv-none c))
   sv-separating (some c) (some c′) h h′ d = go (decLt c c′)
     where
       go : Dec (c < c′) → (n : ℕ) × Count n × (svAnswer gap (some c) n ≢ svAnswer gap (some c′) n)
-      go (yes l) = (c′, h′, λ q. told (some c′) (some c) c′ (sv-same c′) (sv-above c c′ l) (sym q))
+      go (yes l) = (c′, h′, λ q. sv-told (some c′) (some c) c′ (sv-same c′) (sv-above c c′ l) (sym q))
       go (no l) =
           let n : c ≢ c′ = λ e. d (ap {B = Option ℕ} some e) in
-          (c, h, told (some c) (some c′) c (sv-same c) (sv-above c′ c (omega arith)))
+          (c, h, sv-told (some c) (some c′) c (sv-same c) (sv-above c′ c (omega arith)))
 
 pub sv-known : (gap : ℕ) (o : Option ℕ) (i : ℕ) → Holding (Count gap) o → i < 2 ^ 16 → after (λ n. n) countAfter o i < 2 ^ 16
 sv-known gap none i h l = l

@@ -15,6 +15,7 @@ use Rattle.records.specs.Search.{firstFrom, lastBelow}
 use Rattle.records.specs.declared.schedule.RetxSchedule.{RetxSchedule}
 use Rattle.records.specs.Table.{valueOf}
 use Rattle.records.proofs.Booleans.{and-false}
+use Rattle.records.proofs.Distinguish.{outputs}
 use Rattle.inspection.specs.declared.goose_seq.GooseSeqTable.{GooseSeqTable}
 use Rattle.inspection.specs.declared.monitor.Iec61850Monitor.{Iec61850Monitor}
 use Rattle.inspection.specs.declared.reservation.CbChecked.{CbChecked}
@@ -212,8 +213,7 @@ abbrev pub nextAll : Settings → Remembering → List Inspection → Rememberin
 nextAll s = foldl (next s)
 
 abbrev pub answersFrom : Settings → Remembering → List Inspection → List Answer
-answersFrom s v [] = []
-answersFrom s v (x ∷ further) = answerFrom true [] (findings s v x) ∷ answersFrom s (next s v x) further
+answersFrom s = outputs (λ v x. answerFrom true [] (findings s v x)) (next s)
 
 module _ {m : Iec61850Monitor} (q : Plain m) (x : Inspection) where
   plain-done : Done m x

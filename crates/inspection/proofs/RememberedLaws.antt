@@ -1,7 +1,7 @@
 -- The streams and clocks of a monitor represent the lists that its history leaves remembered, and answer as these.
 use Prim.Native.Nat.{ℕ, suc, _+_, _≤_, _<_, _^_}
 use mathlib.Core.Bool.{Bool, true, false, cond}
-use mathlib.Core.List.{List, [], _∷_, _++_, foldl}
+use mathlib.Core.List.{List, [], _∷_, _++_, foldl, foldl-append}
 use mathlib.Core.Option.{Option, none, some}
 use mathlib.Core.Path.{_≡_, refl, sym, ap, _∙_, subst}
 use native.Mathlib.Decide.{ℕ-discrete}
@@ -91,10 +91,6 @@ module _ (s : Settings) where
   abbrev pub listAnswers : RememberedLists → List Inspection → List Answer
   listAnswers = outputs (listAnswer s) (listsAfter s)
 
-fold-append : {L X : Type 0} (f : L → X → L) (l : L) (a b : List X) → foldl f l (a ++ b) ≡ foldl f (foldl f l a) b
-fold-append f l [] b = refl
-fold-append f l (x ∷ a) b = fold-append f (f l x) a b
-
 -- the lists that a history leaves are those that are read off it
 pub moved : (s : Settings) (l : RememberedLists) (h : List Inspection) → foldl (listsAfter s) l h ≡ record {
   svStreams = foldl touchSv (l .svStreams) (reaching svReaches h);
@@ -104,9 +100,9 @@ pub moved : (s : Settings) (l : RememberedLists) (h : List Inspection) → foldl
 moved s l [] = refl
 moved s l (x ∷ h) =
     moved s (listsAfter s l x) h ∙ (λ i. record {
-      svStreams = sym (fold-append touchSv (l .svStreams) (svReaches x) (reaching svReaches h)) i;
-      gooseStreams = sym (fold-append touchGoose (l .gooseStreams) (gooseReaches s x) (reaching (gooseReaches s) h)) i;
-      clocks = sym (fold-append touchClock (l .clocks) (clockReaches s x) (reaching (clockReaches s) h)) i;
+      svStreams = sym (foldl-append touchSv (l .svStreams) (svReaches x) (reaching svReaches h)) i;
+      gooseStreams = sym (foldl-append touchGoose (l .gooseStreams) (gooseReaches s x) (reaching (gooseReaches s) h)) i;
+      clocks = sym (foldl-append touchClock (l .clocks) (clockReaches s x) (reaching (clockReaches s) h)) i;
     })
 
 pub remembered-lists : (s : Settings) (h : List Inspection) → foldl (listsAfter s) noLists h ≡ rememberedLists s h

@@ -1,7 +1,7 @@
 -- What an inspection's result answers: its alerts' codes in their order, and allowed unless one of them refuses or denies.
 use Prim.Native.Nat.{ℕ, _+_, _≤_, _<_}
 use mathlib.Core.Bool.{Bool, true, _&&_, not}
-use mathlib.Core.List.{List, [], _∷_, _++_, map, foldl}
+use mathlib.Core.List.{List, [], _∷_, _++_, map, map-append, foldl}
 use mathlib.Core.Path.{_≡_, refl, ap, _∙_}
 use native.Mathlib.Numerals.{add-one}
 use native.Mathlib.Omega.{arith}
@@ -28,11 +28,7 @@ abbrev code : CodedAlert → ℕ
 code a = codeNumber (a .code)
 
 codes-more : (l : List CodedAlert) (k : ℕ) (a : CodedAlert) → k < length l → map code (take (k + 1) (set l k a)) ≡ map code (take k l) ++ code a ∷ []
-codes-more l k a h = rw (add-one, take-suc-set l k a h) (go (take k l))
-  where
-    go : (m : List CodedAlert) → map code (m ++ a ∷ []) ≡ map code m ++ code a ∷ []
-    go [] = refl
-    go (b ∷ m) = ap (λ (r : List ℕ). code b ∷ r) (go m)
+codes-more l k a h = rw (add-one, take-suc-set l k a h) (map-append code (take k l) (a ∷ []))
 
 module _ (source sourceNumber time : ℕ) where
   -- a result with slots for all findings

@@ -1,7 +1,6 @@
 // Rate limits of MMS requests, carried over from industrial/iec61850-monitor/src/lib.rs of craton-shield a31d888527
 // (Apache-2.0) and changed: a column for each field.
 ghost use mathlib.Core.Path.{_≡_};
-ghost use Rattle.records.specs.Search.{firstUsed, hasNumber};
 ghost use Rattle.inspection.specs.Rate.{noBuckets, bucketTableOf, ratePlan, rateChecked};
 use records::ageing::Ageing;
 use records::ageing::EqualAges;
@@ -9,10 +8,11 @@ use records::ageing::next_tick;
 use records::ageing::slot_for;
 use records::bucket::RateBucket;
 use records::search::Found;
+use records::search::find_number;
 
-// Sixteen buckets, each of one invoke id.
+// Sixteen buckets, each of one invoke id, which is kept as wide as an address so that one search serves both.
 pub struct RateBuckets {
-    pub key: [u32; 16],
+    pub key: [u64; 16],
     pub tokens: [u16; 16],
     pub capacity: [u16; 16],
     pub last_refill_us: [u64; 16],
@@ -47,39 +47,23 @@ impl RateBuckets {
     }
 }
 
-// The slot in use of a key.
-pub fn find_bucket<'a>(keys: &'a [u32; 16], active: &'a [bool; 16], key: u32) -> Found
-    ensures { λ r. ⌜ r ≡ firstUsed (now (active .entry)) (hasNumber (now (keys .entry)) key) ⌝ }
-{
-    let mut i: usize = 0;
-    loop {
-        if i >= 16 {
-            break Found::Nothing;
-        }
-        if active[i] && keys[i] == key {
-            break Found::At(i);
-        }
-        i += 1;
-    }
-}
-
 // What a request does to the columns of the buckets.
 pub fn rate_plan<'a>(
-    keys: &'a [u32; 16],
+    keys: &'a [u64; 16],
     tokens: &'a [u16; 16],
     capacity: &'a [u16; 16],
     last_refill_us: &'a [u64; 16],
     active: &'a [bool; 16],
     last_used: &'a [u32; 16],
     tick: u32,
-    key: u32,
+    key: u64,
     max_rate: u16,
     now_us: u64,
 ) -> RatePlan
     ensures { λ r.
         ⌜ r ≡ ratePlan (bucketTableOf (now (keys .entry)) (now (tokens .entry)) (now (capacity .entry)) (now («last_refill_us» .entry)) (now (active .entry)) (now («last_used» .entry)) tick) key «max_rate» «now_us» ⌝ }
 {
-    match find_bucket(keys, active, key) {
+    match find_number(keys, active, key) {
         Found::At(i) => {
             let left = tokens[i];
             let most = capacity[i];
@@ -107,6 +91,7 @@ pub fn rate_plan<'a>(
 pub fn rate_check(t: RateBuckets, key: u32, max_rate: u16, now_us: u64) -> RateChecked
     ensures { λ r. ⌜ r ≡ rateChecked t key «max_rate» «now_us» ⌝ }
 {
+    let number = key as u64;
     let mut out = t;
     let plan = rate_plan(
         &out.key,
@@ -116,12 +101,12 @@ pub fn rate_check(t: RateBuckets, key: u32, max_rate: u16, now_us: u64) -> RateC
         &out.ageing.active,
         &out.ageing.last_used,
         out.ageing.tick,
-        key,
+        number,
         max_rate,
         now_us,
     );
     let slot = plan.slot;
-    out.key[slot] = key;
+    out.key[slot] = number;
     out.tokens[slot] = plan.bucket.tokens;
     out.capacity[slot] = plan.bucket.capacity;
     out.last_refill_us[slot] = plan.bucket.last_refill_us;

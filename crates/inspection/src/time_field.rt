@@ -2,13 +2,13 @@
 // column for each field; no flag for a clock without a pair, since there is none.
 ghost use mathlib.Core.Path.{_≡_};
 ghost use mathlib.Core.Option.{some};
-ghost use Rattle.records.specs.Search.{firstUsed, hasNumber};
 ghost use Rattle.inspection.specs.TimeField.{noClocks, hasClock, clockAlert, clockTableOf, timePlan, timeChecked};
 use records::ageing::Ageing;
 use records::ageing::EqualAges;
 use records::ageing::next_tick;
 use records::ageing::slot_for;
 use records::search::Found;
+use records::search::find_number;
 
 // Sixteen clocks, each of one address, with the pair of its last frame.
 pub struct TimeTrackers {
@@ -66,22 +66,6 @@ fn clock_alerts(
     limit < seconds - kept_seconds
 }
 
-// The slot in use of an address.
-pub fn find_clock<'a>(src_macs: &'a [u64; 16], active: &'a [bool; 16], src_mac: u64) -> Found
-    ensures { λ r. ⌜ r ≡ firstUsed (now (active .entry)) (hasNumber (now («src_macs» .entry)) «src_mac») ⌝ }
-{
-    let mut i: usize = 0;
-    loop {
-        if i >= 16 {
-            break Found::Nothing;
-        }
-        if active[i] && src_macs[i] == src_mac {
-            break Found::At(i);
-        }
-        i += 1;
-    }
-}
-
 // Whether a pair is checked and kept.
 fn has_clock(seconds: u32, fraction: u32) -> bool
     ensures { λ r. ⌜ r ≡ hasClock (seconds, fraction) ⌝ }
@@ -108,7 +92,7 @@ pub fn time_plan<'a>(
     ensures { λ r.
         ⌜ r ≡ timePlan (clockTableOf (now («src_macs» .entry)) (now («last_t_seconds» .entry)) (now («last_t_fraction» .entry)) (now (active .entry)) (now («last_used» .entry)) tick) limit «src_mac» (seconds, fraction) ⌝ }
 {
-    match find_clock(src_macs, active, src_mac) {
+    match find_number(src_macs, active, src_mac) {
         Found::At(i) => TimePlan {
             slot: i,
             alert: clock_alerts(

@@ -11,6 +11,7 @@ use borrow.Author.Tests.{lt-ltb, le-ltb}
 use lib.Dec.{ltb}
 use lib.ListN.{length, take}
 use lib.Seq.{take-take}
+use Rattle.records.proofs.Lists.{map-take}
 use Rattle.records.specs.Decide.{decidePair}
 use Rattle.records.specs.Remembered.{lookup, without, distinct, since}
 
@@ -185,9 +186,7 @@ module _ {J K A B : Type 0} (f : J → K × B) where
   entries-absent k (e ∷ l) a = (a .0, entries-absent k l (a .1))
 
   pub entries-take : (n : ℕ) (l : List (J × A)) → entriesOf f (take n l) ≡ take n (entriesOf f l)
-  entries-take zero l = refl
-  entries-take (suc n) [] = refl
-  entries-take (suc n) (e ∷ l) = rw (entries-take n l)
+  entries-take n l = map-take (λ e. f (e .0)) n l
 
 -- an entry and its key, where f gives each key once
 module _ {J K A B : Type 0} (decJ : Discrete J) (decK : Discrete K) (f : J → K × B) (j : J) (a : A) where

@@ -3,9 +3,10 @@ use Prim.Native.Nat.{ℕ, zero, suc}
 use mathlib.Core.List.{List, [], _∷_, map}
 use mathlib.Core.Logic.{by-cases, if-pos, if-neg}
 use mathlib.Core.Option.{Option, none, some}
-use mathlib.Core.Path.{_≡_, refl, ap}
+use mathlib.Core.Path.{_≡_, refl, sym, ap, _∙_}
 use lib.ListN.{take}
 use Rattle.records.proofs.ByLastUse.{touch}
+use Rattle.records.proofs.Lists.{map-take}
 use Rattle.records.specs.Remembered.{lookup, without, after}
 
 module _ {K W P : Type 0} (part : W → P) where
@@ -28,11 +29,6 @@ module _ {K W P : Type 0} (part : W → P) (dec : Discrete K) (k : K) where
   without-parts (e ∷ l) =
       by-cases (dec k (e .0)) (λ p. simp if-pos (without-parts l)) (λ p. simp if-neg (ap (λ (m : List (K × P)). (e .0, part (e .1)) ∷ m) (without-parts l)))
 
-take-parts : {K W P : Type 0} (part : W → P) (n : ℕ) (l : List (K × W)) → take n (parts part l) ≡ parts part (take n l)
-take-parts part zero l = refl
-take-parts part (suc n) [] = refl
-take-parts part (suc n) (e ∷ l) = ap (λ (m : List _). (e .0, part (e .1)) ∷ m) (take-parts part n l)
-
 module _ {K W P I J : Type 0} (part : W → P) (partIn : I → J) (dec : Discrete K) (n : ℕ) (fresh : I → W) (step : W → I → W) (fresh′ : J → P) (step′ : P → J → P)
     (begins : (i : I) → part (fresh i) ≡ fresh′ (partIn i)) (goes : (w : W) (i : I) → part (step w i) ≡ step′ (part w) (partIn i)) where
   after-parts : (o : Option W) (i : I) → after fresh′ step′ (partOf part o) (partIn i) ≡ part (after fresh step o i)
@@ -42,4 +38,4 @@ module _ {K W P I J : Type 0} (part : W → P) (partIn : I → J) (dec : Discret
   pub touch-parts : (l : List (K × W)) (k : K) (i : I) → touch dec n fresh′ step′ (parts part l) (k, partIn i) ≡ parts part (touch dec n fresh step l (k, i))
   touch-parts l k i =
       rw (lookup-parts part dec k l, without-parts part dec k l, after-parts (lookup dec k l) i)
-      (take-parts part n ((k, after fresh step (lookup dec k l) i) ∷ without dec k l))
+      (sym (map-take (λ e. (e .0, part (e .1))) n ((k, after fresh step (lookup dec k l) i) ∷ without dec k l)))

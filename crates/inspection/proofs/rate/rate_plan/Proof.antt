@@ -7,14 +7,14 @@ use Rattle.inspection.proofs.RateLaws.{plan-known, plan-new}
 use Rattle.inspection.proofs.rate.rate_plan.Statement.{statement}
 use Rattle.inspection.proofs.rate.rate_plan.Tie as tie
 
-find-bucket-requires : tie.Need-find-bucket-requires
-find-bucket-requires c κs = search needs
+find-number-requires : tie.Need-find-number-requires
+find-number-requires c κs = search needs
 
 enum-known-i : tie.Need-enum-known-i
 enum-known-i c = search needs
 
 slot-below : (c : tie.After-known-told) → c .before .i .given .0 .0 < 16
-slot-below c = found-below _ (c .before .before .before .find-bucket .ensures) (c .before .i .given .1)
+slot-below c = found-below _ (c .before .before .before .find-number .ensures) (c .before .i .given .1)
 
 mul-left : tie.Need-mul-left
 mul-left c = omega (arith, slot-below c)
@@ -55,19 +55,19 @@ first-call-requires c κs = search needs
 returns : tie.Need-returns
 returns c =
     let f = c .before .before .before .before .before .before in
-    plan-known _ _ _ _ (f .before .before .find-bucket .ensures) (f .i .given .1) (c .before .consumed .ensures) (c .allows .ensures)
+    plan-known _ _ _ _ (f .before .before .find-number .ensures) (f .i .given .1) (c .before .consumed .ensures) (c .allows .ensures)
 
 returns-2 : tie.Need-returns-2
 returns-2 c =
     let f = c .before .before .before in
-    plan-new _ _ _ _ (f .before .before .find-bucket .ensures) (f .enum-told .given .1) (c .before .before .next-tick .ensures) (c .before .slot-for .ensures)
+    plan-new _ _ _ _ (f .before .before .find-number .ensures) (f .enum-told .given .1) (c .before .before .next-tick .ensures) (c .before .slot-for .ensures)
     (c .first-call .ensures)
 
 pub rate-plan-spec : {M : Type 1} → statement M
 rate-plan-spec =
     tie.close
     (tie.spec
-    find-bucket-requires
+    find-number-requires
     enum-known-i
     mul-left
     element-copy-out-left

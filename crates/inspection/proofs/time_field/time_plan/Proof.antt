@@ -7,14 +7,14 @@ use Rattle.inspection.proofs.TimeFieldLaws.{plan-known, plan-new}
 use Rattle.inspection.proofs.time_field.time_plan.Statement.{statement}
 use Rattle.inspection.proofs.time_field.time_plan.Tie as tie
 
-find-clock-requires : tie.Need-find-clock-requires
-find-clock-requires c κs = search needs
+find-number-requires : tie.Need-find-number-requires
+find-number-requires c κs = search needs
 
 enum-known-i : tie.Need-enum-known-i
 enum-known-i c = search needs
 
 slot-below : (c : tie.After-known-told) → c .before .i .given .0 .0 < 16
-slot-below c = found-below _ (c .before .before .before .find-clock .ensures) (c .before .i .given .1)
+slot-below c = found-below _ (c .before .before .before .find-number .ensures) (c .before .i .given .1)
 
 mul-clock-alerts : tie.Need-mul-clock-alerts
 mul-clock-alerts c = omega (arith, slot-below c)
@@ -43,18 +43,18 @@ slot-for-requires c κs = search needs
 returns : tie.Need-returns
 returns c =
     let f = c .before .before .before .before in
-    plan-known _ _ _ _ (f .before .before .find-clock .ensures) (f .i .given .1) (c .clock-alerts .ensures)
+    plan-known _ _ _ _ (f .before .before .find-number .ensures) (f .i .given .1) (c .clock-alerts .ensures)
 
 returns-2 : tie.Need-returns-2
 returns-2 c =
     let f = c .before .before in
-    plan-new _ _ _ _ (f .before .before .find-clock .ensures) (f .enum-told .given .1) (c .before .next-tick .ensures) (c .slot-for .ensures)
+    plan-new _ _ _ _ (f .before .before .find-number .ensures) (f .enum-told .given .1) (c .before .next-tick .ensures) (c .slot-for .ensures)
 
 pub time-plan-spec : {M : Type 1} → statement M
 time-plan-spec =
     tie.close
     (tie.spec
-    find-clock-requires
+    find-number-requires
     enum-known-i
     mul-clock-alerts
     element-copy-out-clock-alerts

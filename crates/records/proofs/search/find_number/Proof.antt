@@ -1,4 +1,4 @@
--- `find_bucket` meets its contract. The invariant: the search has reached slot i.
+-- `find_number` meets its contract. The invariant: the search has reached slot i.
 use mathlib.Core.Path.{refl}
 use mathlib.Core.Bool.{false, _&&_}
 use mathlib.Core.Logic.{⊎-elim}
@@ -6,16 +6,16 @@ use Prim.Native.Nat.{_-_}
 use native.Mathlib.Omega.{arith}
 use lib.Dec.{eqb}
 use lib.ListN.{getD}
 use Rattle.records.proofs.Booleans.{and-yes, and-no}
 use Rattle.records.proofs.SearchLaws.{Reached, reached-first, reached-end, reached-hit, reached-next}
-use Rattle.inspection.proofs.rate.find_bucket.Statement.{statement}
-use Rattle.inspection.proofs.rate.find_bucket.Tie as tie
+use Rattle.records.proofs.search.find_number.Statement.{statement}
+use Rattle.records.proofs.search.find_number.Tie as tie
 
 abbrev Inv-loop : tie.InvT-loop
-Inv-loop keys active key i₀ i = Reached (λ j. getD active j false && eqb (getD keys j 0) key) 16 i
+Inv-loop column active number i₀ i = Reached (λ j. getD active j false && eqb (getD column j 0) number) 16 i
 
 abbrev μ-loop : tie.MeasureT-loop
-μ-loop keys active key i₀ i = 16 - i
+μ-loop column active number i₀ i = 16 - i
 
 loop-holds : tie.Need-loop-holds Inv-loop μ-loop
 loop-holds c = reached-first
@@ -47,8 +47,8 @@ returns-2 : tie.Need-returns-2 Inv-loop μ-loop
 returns-2 c =
     reached-hit (c .before .before .before .before .before .loop .inv) (omega arith) refl (and-yes (c .before .before .if2 .taken) (c .if3 .taken))
 
-pub find-bucket-spec : {M : Type 1} → statement M
-find-bucket-spec =
+pub find-number-spec : {M : Type 1} → statement M
+find-number-spec =
     tie.close
     (tie.spec
     Inv-loop
