@@ -66,6 +66,7 @@ afterCalls m calls = foldl called m calls
 
 -- ---- calls within their types
 
+-- numbers within their width, addresses of six octets, names of any octets
 abbrev pub LegalSetting : Setting → Type 0
 LegalSetting (serviceMask mask) = mask < 2 ^ 16
 LegalSetting (readOnly on) = Unit {0}
@@ -77,6 +78,7 @@ LegalSetting (maxSmpCntGap gap) = gap < 2 ^ 16
 LegalSetting (schedule s enforce) = (s .«initial_us» < 2 ^ 32) × (s .«t_max_us» < 2 ^ 32) × (s .«tolerance_pct» < 256)
 LegalSetting (maxForwardJump seconds) = seconds < 2 ^ 32
 
+-- frames and octets within their types
 abbrev pub LegalCall : Call → Type 0
 LegalCall (setting s) = LegalSetting s
 LegalCall (mms f) = LegalMms f

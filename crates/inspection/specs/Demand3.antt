@@ -38,6 +38,7 @@ Legal [] = Unit {0}
 Legal (goose f ∷ h) = LegalGoose f × Legal h
 Legal (sv f ∷ h) = LegalSv f × Legal h
 
+-- the inspection of a frame, decoded by the host
 abbrev pub inspect : Iec61850Monitor → Inspection → Inspected
 inspect m (goose f) = inspectGoose m f
 inspect m (sv f) = inspectSv m f
@@ -46,13 +47,14 @@ inspect m (sv f) = inspectSv m f
 abbrev pub afterHistory : Iec61850Monitor → List Inspection → Iec61850Monitor
 afterHistory m h = foldl (λ m x. inspect m x .monitor) m h
 
--- an answer: the allowed flag and the alert codes in order
+-- an answer: the allowed flag and the alert codes of slots 0 to count − 1, in order
 abbrev pub Answer : Type 0
 Answer = Bool × List ℕ
 
 abbrev pub answerOf : InspectResult → Answer
 answerOf r = (r .allowed, map (λ (a : CodedAlert). codeNumber (a .code)) (take (r .«alert_count») (r .alerts)))
 
+-- the answers to further frames, each from the monitor that the frame before it left
 abbrev pub answers : Iec61850Monitor → List Inspection → List Answer
 answers m [] = []
 answers m (x ∷ further) = answerOf (inspect m x .result) ∷ answers (inspect m x .monitor) further
@@ -94,6 +96,7 @@ pub record RememberedLists : Type 0 where
   pub gooseStreams : List ((ℕ × ℕ) × (ℕ × ℕ))
   pub clocks : List (ℕ × (ℕ × ℕ))
 
+-- the lists that a history leaves, under these settings
 abbrev pub rememberedLists : Settings → List Inspection → RememberedLists
 rememberedLists s h =
     record {
@@ -132,6 +135,7 @@ module _ (m : Iec61850Monitor) (h h′ : List Inspection) where
     pub within : Within further
     pub unequal : answers (afterHistory m h) further ≢ answers (afterHistory m h′) further
 
+  -- both leave equal lists: keys, numbers or pairs, and order
   abbrev pub EqualLists : Type 0
   EqualLists = rememberedLists (m .settings) h ≡ rememberedLists (m .settings) h′
 

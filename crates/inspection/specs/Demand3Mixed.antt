@@ -20,6 +20,7 @@ pub data Arrival : Type 0 where
   decoded : Inspection → Arrival
   raw : List ℕ → ℕ → Arrival
 
+-- arrivals within their types
 abbrev pub LegalArrivals : List Arrival → Type 0
 LegalArrivals [] = Unit {0}
 LegalArrivals (decoded x ∷ a) = Legal (x ∷ []) × LegalArrivals a

@@ -54,7 +54,7 @@ svCount m f rate before c =
     ended (withSvStreams m (c .table))
     (before ++ countFindings (m .settings .«sv_max_smp_cnt_gap») (rateFindings (f .«smp_rate») rate) (c .outcome))
 
--- then the count
+-- the count is checked also after a clock alert
 abbrev pub svClock : Iec61850Monitor → SvFrame → ℕ → TimeChecked → Checked
 svClock m f rate c =
     svCount (withClocks m (c .table)) f rate (clockFindings (c .alert)) (svChecked (m .tables .«sv_seq») (svKey f) (f .«smp_cnt»))

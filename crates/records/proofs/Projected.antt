@@ -1,10 +1,9 @@
 -- Lists by last use whose values are parts of others: a frame moves both alike.
-use Prim.Native.Nat.{ℕ, zero, suc}
+use Prim.Native.Nat.{ℕ}
 use mathlib.Core.List.{List, [], _∷_, map}
 use mathlib.Core.Logic.{by-cases, if-pos, if-neg}
 use mathlib.Core.Option.{Option, none, some}
-use mathlib.Core.Path.{_≡_, refl, sym, ap, _∙_}
-use lib.ListN.{take}
+use mathlib.Core.Path.{_≡_, refl, sym, ap}
 use Rattle.records.proofs.ByLastUse.{touch}
 use Rattle.records.proofs.Lists.{map-take}
 use Rattle.records.specs.Remembered.{lookup, without, after}
