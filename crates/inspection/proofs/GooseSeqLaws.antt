@@ -1,4 +1,5 @@
 -- Laws of GOOSE streams: the ways that a plan and a look-up go, and a plan carried out.
+use mathlib.Core.List.{[]}
 use mathlib.Core.Path.{_≡_, refl, _∙_}
 use mathlib.Core.Bool.{Bool, true, false}
 use Prim.Native.Nat.{ℕ, _<_}
@@ -14,7 +15,7 @@ use Rattle.records.proofs.Booleans.{answered}
 use Rattle.records.proofs.TableLaws.{new-slot-is, target-below}
 use Rattle.inspection.specs.declared.goose_seq.GooseSeqTable.{GooseSeqTable}
 use Rattle.inspection.specs.declared.goose_seq.GoosePlan.{GoosePlan}
-use Rattle.inspection.specs.GooseSeq.{gooseStreams, replays, retransmission, outsideTolerance, retxChecked, gooseChecked, goosePlanOf, goosePlan}
+use Rattle.inspection.specs.GooseSeq.{gooseStreams, replays, retransmission, outsideTolerance, retxChecked, gooseChecked, gooseTableOf, goosePlanOf, goosePlan}
 
 module _ (t : GooseSeqTable) (key : ℕ × ℕ) (new : (ℕ × ℕ) × ℕ) where
   module _ {f : Found} (s : f ≡ slotOf gooseStreams t key) where
@@ -76,3 +77,17 @@ pub plan-carried-out :
     ≡ gooseChecked t key new
 unfolding goosePlan gooseChecked
 plan-carried-out t key new e u = rw (u, e)
+
+-- the look-up reads neither ages nor tick
+pub retx-columns : (enforce : Bool) (schedule : RetxSchedule) (t : GooseSeqTable) (key : ℕ × ℕ) (new : (ℕ × ℕ) × ℕ)
+    → retxChecked enforce schedule (gooseTableOf (t .«src_mac») (t .«go_cb_ref_hash») (t .«last_st_num») (t .«last_sq_num») (t .«last_seen_us») (t .ageing .active) [] 0) key new
+    ≡ retxChecked enforce schedule t key new
+unfolding retxChecked
+retx-columns enforce schedule t key new = go (slotOf gooseStreams t key)
+  where
+    columns : GooseSeqTable
+    columns = gooseTableOf (t .«src_mac») (t .«go_cb_ref_hash») (t .«last_st_num») (t .«last_sq_num») (t .«last_seen_us») (t .ageing .active) [] 0
+
+    go : (f : Found) → retransmission enforce schedule (valueAt gooseStreams columns f) new ≡ retransmission enforce schedule (valueAt gooseStreams t f) new
+    go (At i) = refl
+    go Nothing = refl

@@ -1,4 +1,5 @@
 pub mod AddressLaws
+pub mod RuleLaws
 pub mod OutcomeLaws
 pub mod RateLaws
 pub mod TimeFieldLaws
@@ -6,6 +7,7 @@ pub mod SvSeqLaws
 pub mod GooseSeqLaws
 pub mod SvPublisherLaws
 pub mod ReservationLaws
+pub mod StageLaws
 pub mod SettingLaws
 pub mod ReportLaws
 pub mod StreamTables

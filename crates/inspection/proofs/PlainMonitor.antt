@@ -47,7 +47,7 @@ pub record Remembering : Type 0 where
   pub timeTrackers : TimeTrackers
 
 abbrev pub remembering : Iec61850Monitor → Remembering
-remembering m = record { svSeq = m .tables .«sv_seq»; gooseSeq = m .tables .«goose_seq»; timeTrackers = m .tables .«time_trackers» }
+remembering m = record { svSeq = m .«sv_seq»; gooseSeq = m .«goose_seq»; timeTrackers = m .«time_trackers» }
 
 module _ (s : Settings) (v : Remembering) where
   abbrev pub clockOf : List ℕ → ℕ × ℕ → TimeChecked
@@ -162,7 +162,7 @@ module _ (m : Iec61850Monitor) (p : Premises m) (free : m .«cb_reservations» �
     answer =
         rw (sv-checks m p free f)
         (reported-answer _ _ _ (svTimeField (countedSv m) f 0) (rw no-rate (sv-short (clockOf (m .settings) (remembering m) (f .«src_mac») (svPair f) .alert) (m .settings .«sv_max_smp_cnt_gap»)
-        (svChecked (m .tables .«sv_seq») (svKey f) (f .«smp_cnt») .outcome))) ∙ rw no-rate);
+        (svChecked (m .«sv_seq») (svKey f) (f .«smp_cnt») .outcome))) ∙ rw no-rate);
   }
 
   goose-done : (f : GooseFrame) → Done m (goose f)
@@ -186,8 +186,8 @@ module _ (m : Iec61850Monitor) (p : Premises m) (free : m .«cb_reservations» �
         answer =
             rw (e, q)
             (reported-answer _ _ _ (gooseTimeField (countedGoose m) f) (goose-short (clockOf (m .settings) (remembering m) (f .«src_mac») (goosePair f) .alert)
-            (gooseChecked (m .tables .«goose_seq») (gooseKey f) (gooseTimed f) .replay)
-            (retxChecked (m .settings .«retx_enforce») (m .settings .«retx_schedule») (m .tables .«goose_seq») (gooseKey f) (gooseTimed f))) ∙ rw (p .not-enforced, not-enforced));
+            (gooseChecked (m .«goose_seq») (gooseKey f) (gooseTimed f) .replay)
+            (retxChecked (m .settings .«retx_enforce») (m .settings .«retx_schedule») (m .«goose_seq») (gooseKey f) (gooseTimed f))) ∙ rw (p .not-enforced, not-enforced));
       }
 
   pub done : (x : Inspection) → Done m x

@@ -3,8 +3,8 @@ use mathlib.Core.Bool.{Bool}
 use mathlib.Core.List.{List, [], _∷_, foldl}
 use mathlib.Core.Path.{_≡_, refl, _∙_}
 use lib.ListN.{length}
-use Rattle.inspection.specs.declared.monitor.Added.{Added}
-use Rattle.inspection.specs.declared.monitor.Added.the-variants.{Rule, Error}
+use Rattle.inspection.specs.declared.rules.Added.{Added}
+use Rattle.inspection.specs.declared.rules.Added.the-variants.{Rule, Error}
 use Rattle.inspection.specs.declared.monitor.Iec61850Monitor.{Iec61850Monitor}
 use Rattle.inspection.specs.declared.mms_rule.MmsRules.{MmsRules}
 use Rattle.inspection.specs.declared.goose_publisher.GoosePublishers.{GoosePublishers}
@@ -16,10 +16,11 @@ use Rattle.inspection.specs.MmsRule.{withMmsRule}
 use Rattle.inspection.specs.GoosePublisher.{withGoosePublisher}
 use Rattle.inspection.specs.SvPublisher.{withSvPublisher}
 use Rattle.inspection.specs.Rules.{ifAdded, addAnswer}
+use Rattle.inspection.proofs.PlainMonitor.{remembering}
 
--- the same tables and reservations
+-- the same streams, clocks and reservations
 pub record Untouched (m m′ : Iec61850Monitor) : Type 0 where
-  pub tables : m′ .tables ≡ m .tables
+  pub tables : remembering m′ ≡ remembering m
   pub reservations : m′ .«cb_reservations» ≡ m .«cb_reservations»
 
 added-untouched : (m : Iec61850Monitor) (answer : Added) (mms : MmsRules) (goose : GoosePublishers) (sv : SvPublishers) → Untouched m (ifAdded answer (withRules m mms goose sv) m)

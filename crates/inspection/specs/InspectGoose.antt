@@ -39,13 +39,13 @@ gooseStream m before outside c = ended (withGooseStreams m (c .table)) (before +
 abbrev pub gooseClock : Iec61850Monitor → GooseFrame → TimeChecked → Checked
 gooseClock m f c =
     gooseStream (withClocks m (c .table)) (clockFindings (c .alert))
-    (retxChecked (m .settings .«retx_enforce») (m .settings .«retx_schedule») (m .tables .«goose_seq») (gooseKey f) (gooseTimed f))
-    (gooseChecked (m .tables .«goose_seq») (gooseKey f) (gooseTimed f))
+    (retxChecked (m .settings .«retx_enforce») (m .settings .«retx_schedule») (m .«goose_seq») (gooseKey f) (gooseTimed f))
+    (gooseChecked (m .«goose_seq») (gooseKey f) (gooseTimed f))
 
 -- 12. clock alert: High 31, checking goes on
 unfoldable pub gooseTimeField : Iec61850Monitor → GooseFrame → Checked
 gooseTimeField m f =
-    gooseClock m f (timeChecked (m .tables .«time_trackers») (m .settings .«time_max_forward_jump_s») (addressOf (f .«src_mac»)) (goosePair f))
+    gooseClock m f (timeChecked (m .«time_trackers») (m .settings .«time_max_forward_jump_s») (addressOf (f .«src_mac»)) (goosePair f))
 
 -- 11. named control block bound to another address: High 29
 abbrev pub gooseBound : Iec61850Monitor → GooseFrame → CbChecked → Checked

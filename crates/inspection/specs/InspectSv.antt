@@ -1,8 +1,9 @@
 -- The inspection of a sampled-values frame, decoded or raw (01, "Refusals in checking order", 3 and 14 to 20).
 use Prim.Native.Nat.{ℕ}
-use mathlib.Core.Bool.{false, _&&_, not, cond}
+use mathlib.Core.Bool.{Bool, false, _&&_, not, cond}
 use mathlib.Core.List.{List, [], _∷_, _++_}
 use lib.Dec.{eqb, ltb}
+use lib.ListN.{getD}
 use Rattle.records.specs.declared.alert.AlertSeverity.the-variants.{Medium, High}
 use Rattle.records.specs.declared.alert.AlertCode.the-variants.{PolicyViolation, SvReplay, SvRateAnomaly, IedMismatch, CbHijack}
 use Rattle.records.specs.declared.frame.SvFrame.{SvFrame}
@@ -16,6 +17,8 @@ use Rattle.inspection.specs.declared.monitor.Iec61850Monitor.{Iec61850Mo
 use Rattle.inspection.specs.declared.monitor.Inspected.{Inspected}
 use Rattle.inspection.specs.declared.monitor.RawInspected.{RawInspected}
 use Rattle.inspection.specs.declared.reservation.CbChecked.{CbChecked}
+use Rattle.inspection.specs.declared.rules.RuleCheck.{RuleCheck}
+use Rattle.inspection.specs.declared.rules.RuleCheck.the-variants.{Refused, Rate}
 use Rattle.inspection.specs.declared.sv_publisher.PublisherMatch.{PublisherMatch}
 use Rattle.inspection.specs.declared.sv_publisher.PublisherMatch.the-variants.{NotRegistered, WrongAddress, Fits}
 use Rattle.inspection.specs.declared.sv_seq.SvChecked.{SvChecked}
@@ -24,9 +27,9 @@ use Rattle.inspection.specs.declared.sv_seq.SvSeqOutcome.the-variants.{F
 use Rattle.inspection.specs.declared.time_field.TimeChecked.{TimeChecked}
 use Rattle.inspection.specs.Address.{addressOf}
 use Rattle.inspection.specs.Monitor.{countedSv, withReservations, withClocks, withSvStreams}
-use Rattle.inspection.specs.Report.{Finding, Checked, refusal, notice, clockFindings, ended, reported}
+use Rattle.inspection.specs.Report.{Finding, Checked, refusal, notice, clockFindings, ended, permitted, reported}
 use Rattle.inspection.specs.Reservation.{cbChecked}
-use Rattle.inspection.specs.SvPublisher.{svPublisher, ratedAt}
+use Rattle.inspection.specs.SvPublisher.{svPublisher}
 use Rattle.inspection.specs.SvSeq.{svKey, svChecked}
 use Rattle.inspection.specs.TimeField.{timeChecked}
 
@@ -57,12 +60,12 @@ svCount m f rate before c =
 -- the count is checked also after a clock alert
 abbrev pub svClock : Iec61850Monitor → SvFrame → ℕ → TimeChecked → Checked
 svClock m f rate c =
-    svCount (withClocks m (c .table)) f rate (clockFindings (c .alert)) (svChecked (m .tables .«sv_seq») (svKey f) (f .«smp_cnt»))
+    svCount (withClocks m (c .table)) f rate (clockFindings (c .alert)) (svChecked (m .«sv_seq») (svKey f) (f .«smp_cnt»))
 
 -- 17. clock alert: High 31, checking goes on
 unfoldable pub svTimeField : Iec61850Monitor → SvFrame → ℕ → Checked
 svTimeField m f rate =
-    svClock m f rate (timeChecked (m .tables .«time_trackers») (m .settings .«time_max_forward_jump_s») (addressOf (f .«src_mac»)) (svPair f))
+    svClock m f rate (timeChecked (m .«time_trackers») (m .settings .«time_max_forward_jump_s») (addressOf (f .«src_mac»)) (svPair f))
 
 -- 16. data set bound to another address: High 29
 abbrev pub svBound : Iec61850Monitor → SvFrame → ℕ → CbChecked → Checked
@@ -74,17 +77,19 @@ unfoldable pub svReservation : Iec61850Monitor → SvFrame → ℕ → Checked
 svReservation m f rate =
     svBound m f rate (cbChecked (m .«cb_reservations») (nameOf (f .«dataset_ref») (f .«dataset_ref_len»)) false (addressOf (f .«src_mac»)))
 
--- 14. svID registered, never with this address: High 28. 15. strict, publishers exist, svID not among them: Medium 6
-abbrev pub svRegistered : Iec61850Monitor → SvFrame → PublisherMatch → Checked
-svRegistered m f WrongAddress = ended m (refusal High IedMismatch ∷ [])
-svRegistered m f NotRegistered =
-    cond (m .settings .«strict_mode» && ltb 0 (m .rules .sv .count)) (ended m (refusal Medium PolicyViolation ∷ []))
-    (svReservation m f 0)
-svRegistered m f (Fits i) = svReservation m f (ratedAt (m .rules .sv) i)
+-- 14. svID registered, never with this address: High 28. 15. strict, publishers exist, svID not among them: Medium 6. Otherwise the
+-- rate of the last rule that fits, none for an svID not among them
+abbrev pub svRuleCheck : Bool → ℕ → List ℕ → PublisherMatch → RuleCheck
+svRuleCheck strict count rates WrongAddress = Refused High IedMismatch
+svRuleCheck strict count rates NotRegistered = cond (strict && ltb 0 count) (Refused Medium PolicyViolation) (Rate 0)
+svRuleCheck strict count rates (Fits i) = Rate (getD rates i 0)
 
 -- how the svID and the address match the publishers
 unfoldable pub svBinding : Iec61850Monitor → SvFrame → Checked
-svBinding m f = svRegistered m f (svPublisher (m .rules .sv) (addressOf (f .«src_mac»)) (svKey f))
+svBinding m f =
+    permitted m (svReservation m f)
+    (svRuleCheck (m .settings .«strict_mode») (m .rules .sv .count) (m .rules .sv .«expected_smp_rate»)
+    (svPublisher (m .rules .sv) (addressOf (f .«src_mac»)) (svKey f)))
 
 -- the monitor after an SV frame, and the result
 unfoldable pub inspectSv : Iec61850Monitor → SvFrame → Inspected

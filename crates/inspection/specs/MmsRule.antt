@@ -24,13 +24,6 @@ firstApplying masks count raw = firstFrom (λ i. applies (getD masks i 0) raw) 0
 unfoldable pub firstRule : MmsRules → ℕ → Found
 firstRule r raw = firstApplying (r .«service_mask») (r .count) raw
 
--- the rule at a place
-abbrev pub ruleReadOnly : MmsRules → ℕ → Bool
-ruleReadOnly r i = getD (r .«read_only») i false
-
-abbrev pub ruleRate : MmsRules → ℕ → ℕ
-ruleRate r i = getD (r .«max_rate_per_sec») i 0
-
 -- no rules
 abbrev pub noMmsRules : MmsRules
 noMmsRules = record { «service_mask» = replicate 16 0; «read_only» = replicate 16 false; «max_rate_per_sec» = replicate 16 0; count = 0 }

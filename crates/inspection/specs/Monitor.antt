@@ -16,10 +16,9 @@ use Rattle.inspection.specs.declared.sv_seq.SvSeqTable.{SvSeqTable}
 use Rattle.inspection.specs.declared.time_field.TimeTrackers.{TimeTrackers}
 use Rattle.inspection.specs.declared.reservation.CbReservations.{CbReservations}
 use Rattle.inspection.specs.declared.monitor.Rules.{Rules}
-use Rattle.inspection.specs.declared.monitor.Tables.{Tables}
 use Rattle.inspection.specs.declared.monitor.Totals.{Totals}
 use Rattle.inspection.specs.declared.monitor.Iec61850Monitor.{Iec61850Monitor}
-use Rattle.inspection.specs.declared.monitor.Added.{Added}
+use Rattle.inspection.specs.declared.rules.Added.{Added}
 use Rattle.inspection.specs.declared.monitor.Configured.{Configured}
 use Rattle.inspection.specs.Address.{addressOf}
 use Rattle.inspection.specs.Settings.{newSettings, withServiceMask, withReadOnly, withBlockTest, withMaxGap, withSchedule, withMaxJump}
@@ -47,13 +46,19 @@ newTotals =
 abbrev pub noRules : Rules
 noRules = record { mms = noMmsRules; goose = noGoosePublishers; sv = noSvPublishers }
 
--- nothing remembered
-abbrev pub newTables : Tables
-newTables = record { «rate_buckets» = noBuckets; «goose_seq» = noGooseStreams; «sv_seq» = noSvStreams; «time_trackers» = noClocks }
-
 -- settings, and all else as new
 abbrev pub freshWith : Settings → Iec61850Monitor
-freshWith s = record { settings = s; rules = noRules; tables = newTables; «cb_reservations» = noReservations; totals = newTotals }
+freshWith s =
+    record {
+      settings = s;
+      rules = noRules;
+      «rate_buckets» = noBuckets;
+      «goose_seq» = noGooseStreams;
+      «sv_seq» = noSvStreams;
+      «time_trackers» = noClocks;
+      «cb_reservations» = noReservations;
+      totals = newTotals;
+    }
 
 -- a new monitor, strict or not
 abbrev pub newMonitor : Bool → Iec61850Monitor
@@ -86,14 +91,26 @@ module _ (m : Iec61850Monitor) where
 module _ (m : Iec61850Monitor) where
   abbrev pub withSettings : Settings → Iec61850Monitor
   withSettings s =
-      record { settings = s; rules = m .rules; tables = m .tables; «cb_reservations» = m .«cb_reservations»; totals = m .totals }
+      record {
+        settings = s;
+        rules = m .rules;
+        «rate_buckets» = m .«rate_buckets»;
+        «goose_seq» = m .«goose_seq»;
+        «sv_seq» = m .«sv_seq»;
+        «time_trackers» = m .«time_trackers»;
+        «cb_reservations» = m .«cb_reservations»;
+        totals = m .totals;
+      }
 
   abbrev pub withRules : MmsRules → GoosePublishers → SvPublishers → Iec61850Monitor
   withRules mms goose sv =
       record {
         settings = m .settings;
         rules = record { mms = mms; goose = goose; sv = sv };
-        tables = m .tables;
+        «rate_buckets» = m .«rate_buckets»;
+        «goose_seq» = m .«goose_seq»;
+        «sv_seq» = m .«sv_seq»;
+        «time_trackers» = m .«time_trackers»;
         «cb_reservations» = m .«cb_reservations»;
         totals = m .totals;
       }
@@ -103,36 +120,52 @@ module _ (m : Iec61850Monitor) where
       record {
         settings = m .settings;
         rules = m .rules;
-        tables = record { «rate_buckets» = rates; «goose_seq» = goose; «sv_seq» = sv; «time_trackers» = clocks };
+        «rate_buckets» = rates;
+        «goose_seq» = goose;
+        «sv_seq» = sv;
+        «time_trackers» = clocks;
         «cb_reservations» = m .«cb_reservations»;
         totals = m .totals;
       }
 
   abbrev pub withReservations : CbReservations → Iec61850Monitor
-  withReservations r = record { settings = m .settings; rules = m .rules; tables = m .tables; «cb_reservations» = r; totals = m .totals }
+  withReservations r =
+      record {
+        settings = m .settings;
+        rules = m .rules;
+        «rate_buckets» = m .«rate_buckets»;
+        «goose_seq» = m .«goose_seq»;
+        «sv_seq» = m .«sv_seq»;
+        «time_trackers» = m .«time_trackers»;
+        «cb_reservations» = r;
+        totals = m .totals;
+      }
 
   abbrev pub withTotals : ℕ → ℕ → ℕ → AlertCounters → Iec61850Monitor
   withTotals mms goose sv alerts =
       record {
         settings = m .settings;
         rules = m .rules;
-        tables = m .tables;
+        «rate_buckets» = m .«rate_buckets»;
+        «goose_seq» = m .«goose_seq»;
+        «sv_seq» = m .«sv_seq»;
+        «time_trackers» = m .«time_trackers»;
         «cb_reservations» = m .«cb_reservations»;
         totals = record { «mms_total_inspected» = mms; «goose_total_inspected» = goose; «sv_total_inspected» = sv; alerts = alerts };
       }
 
 module _ (m : Iec61850Monitor) where
   abbrev pub withRates : RateBuckets → Iec61850Monitor
-  withRates t = withTables m t (m .tables .«goose_seq») (m .tables .«sv_seq») (m .tables .«time_trackers»)
+  withRates t = withTables m t (m .«goose_seq») (m .«sv_seq») (m .«time_trackers»)
 
   abbrev pub withGooseStreams : GooseSeqTable → Iec61850Monitor
-  withGooseStreams t = withTables m (m .tables .«rate_buckets») t (m .tables .«sv_seq») (m .tables .«time_trackers»)
+  withGooseStreams t = withTables m (m .«rate_buckets») t (m .«sv_seq») (m .«time_trackers»)
 
   abbrev pub withSvStreams : SvSeqTable → Iec61850Monitor
-  withSvStreams t = withTables m (m .tables .«rate_buckets») (m .tables .«goose_seq») t (m .tables .«time_trackers»)
+  withSvStreams t = withTables m (m .«rate_buckets») (m .«goose_seq») t (m .«time_trackers»)
 
   abbrev pub withClocks : TimeTrackers → Iec61850Monitor
-  withClocks t = withTables m (m .tables .«rate_buckets») (m .tables .«goose_seq») (m .tables .«sv_seq») t
+  withClocks t = withTables m (m .«rate_buckets») (m .«goose_seq») (m .«sv_seq») t
 
   -- the inspection counts saturate
   unfoldable pub countedMms : Iec61850Monitor

@@ -1,7 +1,7 @@
 -- What the checks of an inspection find, and the result and counters that report it (01, "Alert and result"; "Refusals in checking order").
 use Prim.Native.Nat.{ℕ}
 use mathlib.Core.Bool.{Bool, true, false, _&&_, not, cond}
-use mathlib.Core.List.{List, [], _∷_, foldl}
+use mathlib.Core.List.{List, [], _∷_, _++_, foldl}
 use Rattle.records.specs.declared.alert.AlertSeverity.{AlertSeverity}
 use Rattle.records.specs.declared.alert.AlertSeverity.the-variants.{High}
 use Rattle.records.specs.declared.alert.AlertCode.{AlertCode}
@@ -11,6 +11,11 @@ use Rattle.records.specs.declared.result.Pushed.{Pushed}
 use Rattle.records.specs.Result.{cleanResult, pushed}
 use Rattle.inspection.specs.declared.monitor.Iec61850Monitor.{Iec61850Monitor}
 use Rattle.inspection.specs.declared.monitor.Inspected.{Inspected}
+use Rattle.inspection.specs.declared.report.CheckAlert.{CheckAlert}
+use Rattle.inspection.specs.declared.report.CheckAlert.the-variants.{Nothing, Refusal, Notice}
+use Rattle.inspection.specs.declared.report.AfterChecks.{AfterChecks}
+use Rattle.inspection.specs.declared.rules.RuleCheck.{RuleCheck}
+use Rattle.inspection.specs.declared.rules.RuleCheck.the-variants.{Refused, Rate}
 use Rattle.inspection.specs.Monitor.{withAlerts}
 
 -- an alert of a check, and whether it refuses the frame
@@ -40,11 +45,16 @@ pub record Checked : Type 0 where
 abbrev pub ended : Iec61850Monitor → List Finding → Checked
 ended m findings = record { monitor = m; findings = findings }
 
--- a result that is refused, or as it was
-abbrev pub allowedUnless : Bool → InspectResult → InspectResult
-allowedUnless refuses r =
+-- checking ends where the rules refuse, and goes on with the rate that they give
+abbrev pub permitted : Iec61850Monitor → (ℕ → Checked) → RuleCheck → Checked
+permitted m next (Refused severity code) = ended m (refusal severity code ∷ [])
+permitted m next (Rate rate) = next rate
+
+-- a result with this allowed flag
+abbrev pub withAllowed : InspectResult → Bool → InspectResult
+withAllowed r allowed =
     record {
-      allowed = r .allowed && not refuses;
+      allowed = allowed;
       «alert_count» = r .«alert_count»;
       «source_type» = r .«source_type»;
       alerts = r .alerts;
@@ -54,7 +64,7 @@ allowedUnless refuses r =
 -- a result and the counters with one more alert
 abbrev pub reportedNext : ℕ → ℕ → ℕ → Pushed → Finding → Pushed
 reportedNext source sourceNumber time p a =
-    pushed (allowedUnless (a .refuses) (p .result)) (p .counters) (a .severity) source sourceNumber time (a .code)
+    pushed (withAllowed (p .result) (p .result .allowed && not (a .refuses))) (p .counters) (a .severity) source sourceNumber time (a .code)
 
 -- the result of an inspection, clean but for its alerts, and the monitor with the alerts counted
 unfoldable pub reported : ℕ → ℕ → ℕ → Checked → Inspected
@@ -65,3 +75,15 @@ reported source sourceNumber time c = inspected (foldl (reportedNext source sour
 
     inspected : Pushed → Inspected
     inspected p = record { monitor = withAlerts (c .monitor) (p .counters); result = p .result }
+
+-- ---- what the code keeps of the findings
+
+-- the alerts of a check's answer
+abbrev pub findingsOf : CheckAlert → List Finding
+findingsOf Nothing = []
+findingsOf (Refusal severity code) = refusal severity code ∷ []
+findingsOf (Notice severity code) = notice severity code ∷ []
+
+-- the alerts of three answers in their order
+abbrev pub checkedOf : AfterChecks → Checked
+checkedOf c = ended (c .monitor) (findingsOf (c .first) ++ (findingsOf (c .second) ++ findingsOf (c .third)))

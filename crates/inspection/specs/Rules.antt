@@ -3,8 +3,8 @@ use Prim.Native.Nat.{ℕ, min}
 use mathlib.Core.Bool.{cond}
 use lib.Dec.{ltb, leb}
 use Rattle.records.specs.declared.error.VsError.the-variants.{ResourceExhausted, InvalidInput}
-use Rattle.inspection.specs.declared.monitor.Added.{Added}
-use Rattle.inspection.specs.declared.monitor.Added.the-variants.{Rule, Error}
+use Rattle.inspection.specs.declared.rules.Added.{Added}
+use Rattle.inspection.specs.declared.rules.Added.the-variants.{Rule, Error}
 
 -- how many rules a count says; above 16 it counts as 16
 abbrev pub ruleCount : ℕ → ℕ

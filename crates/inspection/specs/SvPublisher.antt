@@ -2,7 +2,7 @@
 use Prim.Native.Nat.{ℕ, _+_}
 use mathlib.Core.Bool.{Bool, _&&_, cond}
 use mathlib.Core.List.{List}
-use lib.ListN.{length, getD, set, replicate}
+use lib.ListN.{length, set, replicate}
 use Rattle.records.specs.declared.search.Found.{Found}
 use Rattle.records.specs.declared.search.Found.the-variants.{At, Nothing}
 use Rattle.records.specs.Search.{hasNumber, lastBelow, isFound}
@@ -30,10 +30,6 @@ lastFitting addresses octets lens count address name len =
 unfoldable pub svPublisher : SvPublishers → ℕ → List ℕ → PublisherMatch
 svPublisher p address svid =
     lastFitting (p .«src_mac») (p .svid .octets) (p .svid .lens) (p .count) address (padded svid (length svid)) (length svid)
-
--- the rate of a rule
-abbrev pub ratedAt : SvPublishers → ℕ → ℕ
-ratedAt p i = getD (p .«expected_smp_rate») i 0
 
 -- no rules
 abbrev pub noSvPublishers : SvPublishers

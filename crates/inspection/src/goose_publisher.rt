@@ -1,10 +1,13 @@
 // GOOSE publishers, carried over from industrial/iec61850-monitor/src/lib.rs of craton-shield a31d888527 (Apache-2.0) and
 // changed: a column for each field, and no flag, since a rule below the count is always there.
 ghost use mathlib.Core.Path.{_≡_};
+ghost use lib.ListN.{length};
 ghost use Rattle.records.specs.Name.{sameName};
-ghost use Rattle.inspection.specs.GoosePublisher.{ruleFits, firstFitting, noGoosePublishers};
+ghost use Rattle.inspection.specs.GoosePublisher.{ruleFits, firstFitting, noGoosePublishers, withGoosePublisher};
+ghost use Rattle.inspection.specs.Rules.{addAnswer, ifAdded};
 use crate::rules::rule_count;
 use records::name::Names;
+use records::name::padded_octets;
 use records::name::same_name;
 use records::search::Found;
 
@@ -25,6 +28,27 @@ impl GoosePublishers {
             go_cb_ref: names,
             count: 0,
         }
+    }
+
+    // With one more rule, behind the others; a full list is left as it is, and so is any list for a name over 64 octets.
+    pub fn add(self, src_mac: u64, go_cb_ref: &[u8]) -> Self
+        ensures { λ r. ⌜ r ≡ ifAdded (addAnswer (self .count) (length (now («go_cb_ref» .entry)))) (withGoosePublisher self «src_mac» (now («go_cb_ref» .entry))) self ⌝ }
+    {
+        if self.count >= 16 {
+            return self;
+        }
+        if go_cb_ref.len() > 64 {
+            return self;
+        }
+        let mut out = self;
+        let i = self.count as usize;
+        let names = out.go_cb_ref;
+        let name = padded_octets(go_cb_ref);
+        let stored = names.stored(i, &name, go_cb_ref.len() as u8);
+        out.src_mac[i] = src_mac;
+        out.go_cb_ref = stored;
+        out.count = self.count + 1;
+        out
     }
 }
 

@@ -2,9 +2,13 @@
 pub mod address;
 pub mod goose_publisher;
 pub mod goose_seq;
+pub mod inspect_goose;
+pub mod inspect_mms;
+pub mod inspect_sv;
 pub mod mms_rule;
 pub mod monitor;
 pub mod rate;
+pub mod report;
 pub mod reservation;
 pub mod rules;
 pub mod settings;

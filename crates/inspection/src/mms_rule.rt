@@ -1,7 +1,8 @@
 // MMS rules, carried over from industrial/iec61850-monitor/src/lib.rs of craton-shield a31d888527 (Apache-2.0) and changed: a
 // column for each field, and no flag, since a rule below the count is always there.
 ghost use mathlib.Core.Path.{_≡_};
-ghost use Rattle.inspection.specs.MmsRule.{hasBit, applies, firstApplying, noMmsRules};
+ghost use Rattle.inspection.specs.MmsRule.{hasBit, applies, firstApplying, noMmsRules, withMmsRule};
+ghost use Rattle.inspection.specs.Rules.{addAnswer, ifAdded};
 use crate::rules::rule_count;
 use records::search::Found;
 
@@ -23,6 +24,22 @@ impl MmsRules {
             max_rate_per_sec: [0; 16],
             count: 0,
         }
+    }
+
+    // With one more rule, behind the others; a full list is left as it is.
+    pub fn add(self, service_mask: u16, read_only: bool, max_rate_per_sec: u16) -> Self
+        ensures { λ r. ⌜ r ≡ ifAdded (addAnswer (self .count) 0) (withMmsRule self «service_mask» «read_only» «max_rate_per_sec») self ⌝ }
+    {
+        if self.count >= 16 {
+            return self;
+        }
+        let mut out = self;
+        let i = self.count as usize;
+        out.service_mask[i] = service_mask;
+        out.read_only[i] = read_only;
+        out.max_rate_per_sec[i] = max_rate_per_sec;
+        out.count = self.count + 1;
+        out
     }
 }
 

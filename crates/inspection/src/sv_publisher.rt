@@ -1,9 +1,12 @@
 // SV publishers, carried over from industrial/iec61850-monitor/src/lib.rs of craton-shield a31d888527 (Apache-2.0) and changed:
 // a column for each field, and no flag, since a rule below the count is always there.
 ghost use mathlib.Core.Path.{_≡_};
-ghost use Rattle.inspection.specs.SvPublisher.{notFitting, matchAt, lastFitting, noSvPublishers};
+ghost use lib.ListN.{length};
+ghost use Rattle.inspection.specs.SvPublisher.{notFitting, matchAt, lastFitting, noSvPublishers, withSvPublisher};
+ghost use Rattle.inspection.specs.Rules.{addAnswer, ifAdded};
 use crate::rules::rule_count;
 use records::name::Names;
+use records::name::padded_octets;
 use records::name::same_name;
 use records::search::Found;
 
@@ -33,6 +36,28 @@ impl SvPublishers {
             expected_smp_rate: [0; 16],
             count: 0,
         }
+    }
+
+    // With one more rule, behind the others; a full list is left as it is, and so is any list for a name over 64 octets.
+    pub fn add(self, src_mac: u64, svid: &[u8], expected_smp_rate: u16) -> Self
+        ensures { λ r. ⌜ r ≡ ifAdded (addAnswer (self .count) (length (now (svid .entry)))) (withSvPublisher self «src_mac» (now (svid .entry)) «expected_smp_rate») self ⌝ }
+    {
+        if self.count >= 16 {
+            return self;
+        }
+        if svid.len() > 64 {
+            return self;
+        }
+        let mut out = self;
+        let i = self.count as usize;
+        let names = out.svid;
+        let name = padded_octets(svid);
+        let stored = names.stored(i, &name, svid.len() as u8);
+        out.src_mac[i] = src_mac;
+        out.svid = stored;
+        out.expected_smp_rate[i] = expected_smp_rate;
+        out.count = self.count + 1;
+        out
     }
 }
 

@@ -1,6 +1,7 @@
 // Names, carried over from industrial/iec61850-monitor/src/lib.rs of craton-shield a31d888527 (Apache-2.0) and changed: one
 // component for svIDs, control blocks and publishers. A name is kept as its length and 64 octets, zeros behind its end.
 ghost use mathlib.Core.Path.{_≡_};
+ghost use lib.ListN.{length};
 ghost use Rattle.records.specs.Name.{validLen, padded, sameOctets, sameName, octetsStored, noNames, nameStored};
 
 // Sixteen names: the octets of slot i from 64 × i on, and the lengths.
@@ -25,6 +26,19 @@ pub fn padded(octets: &[u8; 64], len: u8) -> [u8; 64]
     let mut i: usize = 0;
     while i < 64 {
         out[i] = if i < end { octets[i] } else { 0 };
+        i += 1;
+    }
+    out
+}
+
+// The octets of a name that is handed in as a slice, zeros behind its end; of more than 64 octets the first 64.
+pub fn padded_octets(octets: &[u8]) -> [u8; 64]
+    ensures { λ r. ⌜ r ≡ padded (now (octets .entry)) (length (now (octets .entry))) ⌝ }
+{
+    let mut out = [0u8; 64];
+    let mut i: usize = 0;
+    while i < 64 {
+        out[i] = if i < octets.len() { octets[i] } else { 0 };
         i += 1;
     }
     out

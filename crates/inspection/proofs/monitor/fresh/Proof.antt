@@ -44,15 +44,12 @@ returns c =
     let c3 = c4 .before in
     let c2 = c3 .before in
     λ i. record {
-      settings = c8 .new8 .ensures i;
+      settings = c4 .new4 .ensures i;
       rules = record { mms = c2 .before .new .ensures i; goose = c2 .new2 .ensures i; sv = c3 .new3 .ensures i };
-      tables =
-          record {
-            «rate_buckets» = c4 .new4 .ensures i;
-            «goose_seq» = c5 .new5 .ensures i;
-            «sv_seq» = c6 .new6 .ensures i;
-            «time_trackers» = c7 .new7 .ensures i;
-          };
+      «rate_buckets» = c5 .new5 .ensures i;
+      «goose_seq» = c6 .new6 .ensures i;
+      «sv_seq» = c7 .new7 .ensures i;
+      «time_trackers» = c8 .new8 .ensures i;
       «cb_reservations» = c9 .new9 .ensures i;
       totals = c .new10 .ensures i;
     }

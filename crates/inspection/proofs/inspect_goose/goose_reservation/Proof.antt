@@ -1,0 +1,33 @@
+-- `goose_reservation` meets its contract.
+use mathlib.Core.Bool.{true}
+use mathlib.Core.Path.{_∙_, sym, ap}
+use Rattle.records.proofs.Booleans.{cond-yes, cond-no}
+use Rattle.inspection.specs.GooseSeq.{controlBlock}
+use Rattle.inspection.specs.InspectGoose.{gooseBound, gooseReservation}
+use Rattle.inspection.specs.Reservation.{cbChecked}
+use borrow.Author.Needs.{needs}
+use Rattle.inspection.proofs.inspect_goose.goose_reservation.Statement.{statement}
+use Rattle.inspection.proofs.inspect_goose.goose_reservation.Tie as tie
+
+address-of-requires : tie.Need-address-of-requires
+address-of-requires c κs = search needs
+
+cb-hijack-check-requires : tie.Need-cb-hijack-check-requires
+cb-hijack-check-requires c κs = search needs
+
+ended-requires : tie.Need-ended-requires
+ended-requires c κs = search needs
+
+returns : tie.Need-returns
+unfolding gooseReservation
+returns c = let k = c .before .before .before in let s = k .before .before .before .before .before in c .ended .ensures ∙ sym (cond-yes _ _ (c .before .if1 .taken)) ∙ ap (gooseBound (s .args .m) (s .args .f)) (k .cb-hijack-check .ensures ∙ ap (cbChecked (s .args .m .«cb_reservations») (controlBlock (s .args .f)) true) (k .before .address-of .ensures))
+
+goose-streams-requires : tie.Need-goose-streams-requires
+goose-streams-requires c κs = search needs
+
+returns-2 : tie.Need-returns-2
+unfolding gooseReservation
+returns-2 c = let k = c .before .before .before in let s = k .before .before .before .before .before in c .goose-streams .ensures ∙ sym (cond-no _ _ (c .before .if1 .left)) ∙ ap (gooseBound (s .args .m) (s .args .f)) (k .cb-hijack-check .ensures ∙ ap (cbChecked (s .args .m .«cb_reservations») (controlBlock (s .args .f)) true) (k .before .address-of .ensures))
+
+pub goose-reservation-spec : {M : Type 1} → statement M
+goose-reservation-spec = tie.close (tie.spec address-of-requires cb-hijack-check-requires ended-requires returns goose-streams-requires returns-2)

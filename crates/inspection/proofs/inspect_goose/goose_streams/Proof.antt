@@ -1,0 +1,34 @@
+-- `goose_streams` meets its contract.
+use Rattle.inspection.specs.declared.report.CheckAlert.the-variants.{Nothing}
+use mathlib.Core.Path.{refl}
+use Rattle.inspection.proofs.StageLaws.{goose-streams-checked}
+use borrow.Author.Needs.{needs}
+use Rattle.inspection.proofs.inspect_goose.goose_streams.Statement.{statement}
+use Rattle.inspection.proofs.inspect_goose.goose_streams.Tie as tie
+
+address-of-requires : tie.Need-address-of-requires
+address-of-requires c κs = search needs
+
+check-time-field-requires : tie.Need-check-time-field-requires
+check-time-field-requires c κs = search needs
+
+name-hash-requires : tie.Need-name-hash-requires
+name-hash-requires c κs = search needs
+
+goose-retx-requires : tie.Need-goose-retx-requires
+goose-retx-requires c κs = search needs
+
+check-goose-seq-requires : tie.Need-check-goose-seq-requires
+check-goose-seq-requires c κs = search needs
+
+clock-alert-requires : tie.Need-clock-alert-requires
+clock-alert-requires c κs = search needs
+
+stream-alert-requires : tie.Need-stream-alert-requires
+stream-alert-requires c κs = search needs
+
+returns : tie.Need-returns
+returns c = let k = c .before .before .before .before in let x = k .before in let n = x .before .before .before in let t = n .before .before in let s = t .before .before .before .before in goose-streams-checked (s .args .m) (c .before .clock-alert .result) (c .stream-alert .result) Nothing (c .before .clock-alert .ensures) (s .args .f) (t .before .before .address-of .ensures) (n .name-hash .ensures) (t .check-time-field .ensures) (x .goose-retx .ensures) (k .check-goose-seq .ensures) (c .stream-alert .ensures) refl
+
+pub goose-streams-spec : {M : Type 1} → statement M
+goose-streams-spec = tie.close (tie.spec address-of-requires check-time-field-requires name-hash-requires goose-retx-requires check-goose-seq-requires clock-alert-requires stream-alert-requires returns)

@@ -1,0 +1,21 @@
+-- `masked` meets its contract.
+use Rattle.inspection.proofs.StageLaws.{nonzero}
+use native.Mathlib.Omega.{arith}
+use borrow.Author.Tests.{lt-ltb}
+use mathlib.Core.Bool.{not}
+use mathlib.Core.Path.{ap}
+use borrow.Author.Needs.{needs}
+use Rattle.inspection.proofs.inspect_mms.masked.Statement.{statement}
+use Rattle.inspection.proofs.inspect_mms.masked.Tie as tie
+
+returns : tie.Need-returns
+returns c = rw (c .if1 .taken)
+
+has-bit-requires : tie.Need-has-bit-requires
+has-bit-requires c κs = search needs
+
+returns-2 : tie.Need-returns-2
+returns-2 c = rw (nonzero _ (c .before .if1 .left)) (ap not (c .has-bit .ensures))
+
+pub masked-spec : {M : Type 1} → statement M
+masked-spec = tie.close (tie.spec returns has-bit-requires returns-2)

@@ -1,0 +1,32 @@
+-- `sv_streams` meets its contract.
+use Rattle.inspection.proofs.StageLaws.{sv-streams-checked}
+use borrow.Author.Needs.{needs}
+use Rattle.inspection.proofs.inspect_sv.sv_streams.Statement.{statement}
+use Rattle.inspection.proofs.inspect_sv.sv_streams.Tie as tie
+
+address-of-requires : tie.Need-address-of-requires
+address-of-requires c κs = search needs
+
+check-time-field-requires : tie.Need-check-time-field-requires
+check-time-field-requires c κs = search needs
+
+check-sv-seq-requires : tie.Need-check-sv-seq-requires
+check-sv-seq-requires c κs = search needs
+
+clock-alert-requires : tie.Need-clock-alert-requires
+clock-alert-requires c κs = search needs
+
+count-alert-requires : tie.Need-count-alert-requires
+count-alert-requires c κs = search needs
+
+is-replay-requires : tie.Need-is-replay-requires
+is-replay-requires c κs = search needs
+
+rate-alert-requires : tie.Need-rate-alert-requires
+rate-alert-requires c κs = search needs
+
+returns : tie.Need-returns
+returns c = let r = c .before in let n = r .before in let a = n .before in let k = a .before .before .before in let t = k .before .before .before in let s = t .before .before .before .before in sv-streams-checked (s .args .m) (a .clock-alert .result) (n .count-alert .result) (c .rate-alert .result) (a .clock-alert .ensures) (s .args .f) (s .args .rate) (t .before .address-of .ensures) (t .check-time-field .ensures) (k .check-sv-seq .ensures) (r .is-replay .ensures) (n .count-alert .ensures) (c .rate-alert .ensures)
+
+pub sv-streams-spec : {M : Type 1} → statement M
+sv-streams-spec = tie.close (tie.spec address-of-requires check-time-field-requires check-sv-seq-requires clock-alert-requires count-alert-requires is-replay-requires rate-alert-requires returns)
