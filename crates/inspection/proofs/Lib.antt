@@ -10,7 +10,10 @@ pub mod ReservationLaws
 pub mod StageLaws
 pub mod SettingLaws
 pub mod ReportLaws
+pub mod CheckLaws
 pub mod StreamTables
+pub mod CallLaws
+pub mod CallTheoremsHold
 pub mod PlainMonitor
 pub mod RememberedLaws
 pub mod Observables

@@ -1,14 +1,14 @@
 -- Inspections without publishers, reservations and enforcement: what they do to the streams and clocks, and answer from them.
-use Prim.Native.Nat.{ℕ, _≤_}
-use mathlib.Core.Bool.{Bool, true, false, _&&_, cond}
+use Prim.Native.Nat.{ℕ}
+use mathlib.Core.Bool.{Bool, true, false, cond}
 use mathlib.Core.List.{List, [], _∷_, _++_, foldl}
 use mathlib.Core.Option.{Option, none, some}
 use mathlib.Core.Path.{_≡_, refl, _∙_}
 use native.Mathlib.Omega.{arith}
 use lib.Dec.{eqb, ltb}
-use lib.ListN.{length, length-append}
+use lib.ListN.{length}
 use Rattle.records.specs.declared.alert.AlertSeverity.the-variants.{Medium}
-use Rattle.records.specs.declared.alert.AlertCode.the-variants.{PolicyViolation, SvRateAnomaly}
+use Rattle.records.specs.declared.alert.AlertCode.the-variants.{PolicyViolation}
 use Rattle.records.specs.declared.frame.GooseFrame.{GooseFrame}
 use Rattle.records.specs.declared.frame.SvFrame.{SvFrame}
 use Rattle.records.specs.Search.{firstFrom, lastBelow}
@@ -22,8 +22,6 @@ use Rattle.inspection.specs.declared.reservation.CbChecked.{CbChecked}
 use Rattle.inspection.specs.declared.settings.Settings.{Settings}
 use Rattle.inspection.specs.declared.sv_publisher.SvPublishers.{SvPublishers}
 use Rattle.inspection.specs.declared.sv_publisher.PublisherMatch.the-variants.{NotRegistered}
-use Rattle.inspection.specs.declared.sv_seq.SvSeqOutcome.{SvSeqOutcome}
-use Rattle.inspection.specs.declared.sv_seq.SvSeqOutcome.the-variants.{FirstSeen, Replay, ForwardGap, CycleWrap, SuspiciousSmpGap}
 use Rattle.inspection.specs.declared.sv_seq.SvSeqTable.{SvSeqTable}
 use Rattle.inspection.specs.declared.time_field.TimeTrackers.{TimeTrackers}
 use Rattle.inspection.specs.declared.time_field.TimeChecked.{TimeChecked}
@@ -38,16 +36,10 @@ use Rattle.inspection.specs.Reservation.{reservesAt, reservationOf, cbCh
 use Rattle.inspection.specs.SvPublisher.{svPublisher}
 use Rattle.inspection.specs.SvSeq.{svKey, svChecked}
 use Rattle.inspection.specs.TimeField.{timeChecked}
+use Rattle.inspection.proofs.CallLaws.{sv-inspects, goose-inspects}
+use Rattle.inspection.proofs.CheckLaws.{sv-time-field, goose-time-field}
+use Rattle.inspection.proofs.SettingLaws.{Remembering, remembering}
 use Rattle.inspection.proofs.ReportLaws.{answerFrom, reported-answer}
-
--- what the inspections read and write of a monitor
-pub record Remembering : Type 0 where
-  pub svSeq : SvSeqTable
-  pub gooseSeq : GooseSeqTable
-  pub timeTrackers : TimeTrackers
-
-abbrev pub remembering : Iec61850Monitor → Remembering
-remembering m = record { svSeq = m .«sv_seq»; gooseSeq = m .«goose_seq»; timeTrackers = m .«time_trackers» }
 
 module _ (s : Settings) (v : Remembering) where
   abbrev pub clockOf : List ℕ → ℕ × ℕ → TimeChecked
@@ -115,34 +107,6 @@ not-enforced schedule t key new = go (valueOf gooseStreams t key)
     go none = refl
     go (some last) = refl
 
-clock-short : (alert : Bool) → length (clockFindings alert) ≤ 1
-clock-short true = omega arith
-clock-short false = omega arith
-
-stream-short : (replay outside : Bool) → length (streamFindings replay outside) ≤ 1
-stream-short true outside = omega arith
-stream-short false true = omega arith
-stream-short false false = omega arith
-
-count-short : (limit : ℕ) (o : SvSeqOutcome) → length (countFindings limit [] o) ≤ 1
-unfolding countFindings
-count-short limit FirstSeen = omega arith
-count-short limit Replay = omega arith
-count-short limit (ForwardGap gap) = go (ltb 0 limit && ltb limit gap)
-  where
-    go : (b : Bool) → length (cond b (refusal Medium SvRateAnomaly ∷ []) []) ≤ 1
-    go true = omega arith
-    go false = omega arith
-count-short limit CycleWrap = omega arith
-count-short limit (SuspiciousSmpGap gap) = omega arith
-
-sv-short : (alert : Bool) (limit : ℕ) (o : SvSeqOutcome) → length (clockFindings alert ++ countFindings limit [] o) ≤ 4
-sv-short alert limit o = rw (length-append (clockFindings alert) (countFindings limit [] o)) (omega (arith, clock-short alert, count-short limit o))
-
-goose-short : (alert replay outside : Bool) → length (clockFindings alert ++ streamFindings replay outside) ≤ 4
-goose-short alert replay outside =
-    rw (length-append (clockFindings alert) (streamFindings replay outside)) (omega (arith, clock-short alert, stream-short replay outside))
-
 -- what an inspection leaves and answers
 pub record Done (m : Iec61850Monitor) (x : Inspection) : Type 0 where
   pub settings : inspect m x .monitor .settings ≡ m .settings
@@ -155,14 +119,13 @@ module _ (m : Iec61850Monitor) (p : Premises m) (free : m .«cb_reservations» �
   sv-done : (f : SvFrame) → Done m (sv f)
   unfolding inspectSv svTimeField reported countedSv
   sv-done f = record {
-    settings = rw (sv-checks m p free f);
-    rules = rw (sv-checks m p free f);
+    settings = sv-inspects m f .same .settings;
+    rules = sv-inspects m f .same .rules;
     reservations = rw (sv-checks m p free f);
     tables = rw (sv-checks m p free f);
     answer =
         rw (sv-checks m p free f)
-        (reported-answer _ _ _ (svTimeField (countedSv m) f 0) (rw no-rate (sv-short (clockOf (m .settings) (remembering m) (f .«src_mac») (svPair f) .alert) (m .settings .«sv_max_smp_cnt_gap»)
-        (svChecked (m .«sv_seq») (svKey f) (f .«smp_cnt») .outcome))) ∙ rw no-rate);
+        (reported-answer _ _ _ (svTimeField (countedSv m) f 0) (omega (arith, sv-time-field (countedSv m) f 0 .few)) ∙ rw no-rate);
   }
 
   goose-done : (f : GooseFrame) → Done m (goose f)
@@ -172,22 +135,20 @@ module _ (m : Iec61850Monitor) (p : Premises m) (free : m .«cb_reservations» �
       go : (b : Bool) → gooseTest (countedGoose m) f ≡ cond b (ended (countedGoose m) (refusal Medium PolicyViolation ∷ [])) (gooseTimeField (countedGoose m) f)
           → blocked (m .settings) f ≡ b → Done m (goose f)
       go true e q = record {
-        settings = rw e;
-        rules = rw e;
+        settings = goose-inspects m f .same .settings;
+        rules = goose-inspects m f .same .rules;
         reservations = rw e;
         tables = rw (e, q);
         answer = rw (e, q) (reported-answer _ _ _ (ended (countedGoose m) (refusal Medium PolicyViolation ∷ [])) (omega arith));
       }
       go false e q = record {
-        settings = rw e;
-        rules = rw e;
+        settings = goose-inspects m f .same .settings;
+        rules = goose-inspects m f .same .rules;
         reservations = rw e;
         tables = rw (e, q);
         answer =
             rw (e, q)
-            (reported-answer _ _ _ (gooseTimeField (countedGoose m) f) (goose-short (clockOf (m .settings) (remembering m) (f .«src_mac») (goosePair f) .alert)
-            (gooseChecked (m .«goose_seq») (gooseKey f) (gooseTimed f) .replay)
-            (retxChecked (m .settings .«retx_enforce») (m .settings .«retx_schedule») (m .«goose_seq») (gooseKey f) (gooseTimed f))) ∙ rw (p .not-enforced, not-enforced));
+            (reported-answer _ _ _ (gooseTimeField (countedGoose m) f) (omega (arith, goose-time-field (countedGoose m) f .few)) ∙ rw (p .not-enforced, not-enforced));
       }
 
   pub done : (x : Inspection) → Done m x

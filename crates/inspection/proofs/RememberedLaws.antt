@@ -34,7 +34,8 @@ use Rattle.inspection.specs.InspectSv.{svPair, countFindings}
 use Rattle.inspection.specs.Report.{Finding, refusal, clockFindings}
 use Rattle.inspection.specs.SvSeq.{svKey, svStreams, keptCount, svOutcome, svChecked, noSvStreams}
 use Rattle.inspection.specs.TimeField.{clocks, hasClock, clockAlert, timeChecked, noClocks}
-use Rattle.inspection.proofs.PlainMonitor.{Remembering, next, findings, nextAll, answersFrom}
+use Rattle.inspection.proofs.PlainMonitor.{next, findings, nextAll, answersFrom}
+use Rattle.inspection.proofs.SettingLaws.{Remembering}
 use Rattle.inspection.proofs.ReportLaws.{answerFrom}
 use Rattle.inspection.proofs.StreamTables.{clockTable, gooseTable, svTable}
 

@@ -1,25 +1,27 @@
--- What an inspection's result answers: its alerts' codes in their order, and allowed unless one of them refuses or denies.
-use Prim.Native.Nat.{ℕ, _+_, _≤_, _<_}
-use mathlib.Core.Bool.{Bool, true, false, _&&_, not}
-use mathlib.Core.List.{List, [], _∷_, _++_, map, map-append, foldl, foldl-append}
-use mathlib.Core.Path.{_≡_, refl, sym, _∙_, ap}
+-- What an inspection's result answers: its alerts' codes in their order, and allowed unless one of them refuses or denies. How its alerts are
+-- numbered and counted.
+use Prim.Native.Nat.{ℕ, _+_, _-_, _≤_, _<_, _%_, _^_, min}
+use mathlib.Core.Bool.{Bool, true, _&&_, not}
+use mathlib.Core.List.{List, [], _∷_, _++_, map, map-append, foldl, append-assoc, append-nil}
+use mathlib.Core.Path.{_≡_, refl, sym, ap, _∙_}
+use native.Mathlib.Nat.{add-zero}
 use native.Mathlib.Numerals.{add-one}
 use native.Mathlib.Omega.{arith}
 use borrow.Author.Tests.{lt-ltb}
 use lib.ListN.{length, set, take, length-append, length-set}
-use lib.Seq.{take-suc-set}
-use Rattle.records.specs.declared.alert.AlertCode.{AlertCode}
-use Rattle.records.specs.declared.alert.AlertSeverity.{AlertSeverity}
+use lib.Seq.{length-take-le, take-suc-set}
 use Rattle.records.specs.declared.alert.CodedAlert.{CodedAlert}
 use Rattle.records.specs.declared.result.InspectResult.{InspectResult}
 use Rattle.records.specs.declared.result.Pushed.{Pushed}
 use Rattle.records.specs.Alert.{denies, codeNumber, alertOf}
-use Rattle.records.specs.Result.{cleanResult, allowedWith, withAlert, pushed}
+use Rattle.records.specs.Counter.{saturated}
+use Rattle.records.specs.Result.{cleanResult, allowedWith, counted, withAlert, pushed}
+use Rattle.inspection.specs.declared.monitor.Iec61850Monitor.{Iec61850Monitor}
+use Rattle.inspection.specs.declared.monitor.Inspected.{Inspected}
+use Rattle.inspection.specs.CallTheorems.{alertsIn, AtMostThree, nextNumber, numbersIn, numbersFrom}
 use Rattle.inspection.specs.Demand3.{Answer, answerOf}
-use Rattle.inspection.specs.declared.report.AfterChecks.{AfterChecks}
-use Rattle.inspection.specs.Monitor.{withAlerts}
-use Rattle.inspection.specs.Report.{Finding, Checked, refusal, notice, withAllowed, reportedNext, reported, findingsOf, checkedOf}
-use Rattle.records.proofs.Booleans.{and-true, and-false}
+use Rattle.inspection.specs.Monitor.{totalAlerts}
+use Rattle.inspection.specs.Report.{Finding, Checked, reportedNext, reported}
 
 -- an answer with the findings behind it
 abbrev pub answerFrom : Bool → List ℕ → List Finding → Answer
@@ -33,8 +35,9 @@ length-codes allowed codes (a ∷ rest) = length-codes _ (codes ++ codeNumber (a
 abbrev code : CodedAlert → ℕ
 code a = codeNumber (a .code)
 
-codes-more : (l : List CodedAlert) (k : ℕ) (a : CodedAlert) → k < length l → map code (take (k + 1) (set l k a)) ≡ map code (take k l) ++ code a ∷ []
-codes-more l k a h = rw (add-one, take-suc-set l k a h) (map-append code (take k l) (a ∷ []))
+-- what is read of each alert, codes or numbers, with one more alert in the next slot
+pub slots-more : (read : CodedAlert → ℕ) (l : List CodedAlert) (k : ℕ) (a : CodedAlert) → k < length l → map read (take (k + 1) (set l k a)) ≡ map read (take k l) ++ read a ∷ []
+slots-more read l k a h = rw (add-one, take-suc-set l k a h) (map-append read (take k l) (a ∷ []))
 
 module _ (source sourceNumber time : ℕ) where
   -- a result with slots for all findings
@@ -48,43 +51,96 @@ module _ (source sourceNumber time : ℕ) where
       let q = reportedNext source sourceNumber time p a in
       let full = lt-ltb (r .«alert_count») 4 w in
       answer-reported q rest (rw full (length-set (r .alerts) (r .«alert_count») _ ∙ size)) (rw full (omega arith))
-      ∙ rw (full, codes-more (r .alerts) (r .«alert_count») _ (omega arith))
+      ∙ rw (full, slots-more code (r .alerts) (r .«alert_count») _ (omega arith))
 
   pub reported-answer : (c : Checked) → length (c .findings) ≤ 4 → answerOf (reported source sourceNumber time c .result) ≡ answerFrom true [] (c .findings)
   unfolding reported cleanResult
   reported-answer c h = answer-reported (record { result = cleanResult source; counters = c .monitor .totals .alerts }) (c .findings) refl (omega arith)
 
--- ---- the code: alerts added one by one, and the counters put back
+-- ---- counters and numbers
+
+-- a total stays at the most that 64 bits hold, a number wraps
+abbrev pub saturating : ℕ → ℕ
+saturating n = min n (2 ^ 64 - 1)
+
+abbrev pub wrapping : ℕ → ℕ
+wrapping n = n % 2 ^ 64
+
+-- a counter that stands for n stands for k more afterwards
+abbrev pub Grows : (ℕ → ℕ) → ℕ → ℕ → ℕ → Type 0
+Grows reduce before k after = (n : ℕ) → before ≡ reduce n → after ≡ reduce (n + k)
+
+pub grows-none : (reduce : ℕ → ℕ) {before after : ℕ} → after ≡ before → Grows reduce before 0 after
+grows-none reduce e n h = e ∙ h ∙ ap reduce (sym (add-zero n))
+
+pub grows-one : (x : ℕ) → Grows saturating x 1 (saturated x)
+grows-one x n h = rw h (omega arith)
+
+-- so many alerts, each in its slot with the next number, and counted
+record Pushes (p q : Pushed) (k : ℕ) : Type 0 where
+  size : length (q .result .alerts) ≡ 4
+  count : q .result .«alert_count» ≡ p .result .«alert_count» + k
+  whole : q .result .«alerts_truncated» ≡ p .result .«alerts_truncated»
+  total : Grows saturating (p .counters .«total_alerts») k (q .counters .«total_alerts»)
+  next : Grows wrapping (p .counters .«next_alert_id») k (q .counters .«next_alert_id»)
+  numbers : (n : ℕ) → p .counters .«next_alert_id» ≡ wrapping n
+      → numbersIn (alertsIn (q .result)) ≡ numbersIn (alertsIn (p .result)) ++ numbersFrom n k
 
 module _ (source sourceNumber time : ℕ) where
-  -- a result refused before its alert is added
-  pub refusal-added : (p : Pushed) (severity : AlertSeverity) (code : AlertCode)
-      → pushed (withAllowed (p .result) false) (p .counters) severity source sourceNumber time code ≡ reportedNext source sourceNumber time p (refusal severity code)
-  refusal-added p severity code =
-      ap (λ (b : Bool). pushed (withAllowed (p .result) b) (p .counters) severity source sourceNumber time code) (sym (and-false (p .result .allowed)))
+  pushes-one : (p : Pushed) (a : Finding) → length (p .result .alerts) ≡ 4 → p .result .«alert_count» < 4 → Pushes p (reportedNext source sourceNumber time p a) 1
+  unfolding pushed withAlert alertOf counted
+  pushes-one p a size h =
+      let r = p .result in
+      let full = lt-ltb (r .«alert_count») 4 h in
+      record {
+        size = rw full (length-set (r .alerts) (r .«alert_count») _ ∙ size);
+        count = rw full;
+        whole = rw full;
+        total = λ n e. rw (full, e) (omega arith);
+        next = λ n e. rw (full, e) (omega arith);
+        numbers = λ n e. rw full (slots-more (λ (x : CodedAlert). x .alert .id) (r .alerts) (r .«alert_count») _ (omega arith) ∙ rw e);
+      }
 
-  pub notice-added : (p : Pushed) (severity : AlertSeverity) (code : AlertCode)
-      → pushed (p .result) (p .counters) severity source sourceNumber time code ≡ reportedNext source sourceNumber time p (notice severity code)
-  notice-added p severity code =
-      ap (λ (b : Bool). pushed (withAllowed (p .result) b) (p .counters) severity source sourceNumber time code) (sym (and-true (p .result .allowed)))
+  pushes-all : (p : Pushed) (findings : List Finding) → length (p .result .alerts) ≡ 4 → p .result .«alert_count» + length findings ≤ 4
+      → Pushes p (foldl (reportedNext source sourceNumber time) p findings) (length findings)
+  pushes-all p [] size h = record {
+    size = size;
+    count = omega arith;
+    whole = refl;
+    total = grows-none saturating refl;
+    next = grows-none wrapping refl;
+    numbers = λ n e. sym (append-nil _);
+  }
+  pushes-all p (a ∷ rest) size h =
+      let one = pushes-one p a size (omega arith) in
+      let all = pushes-all (reportedNext source sourceNumber time p a) rest (one .size) (omega (arith, one .count)) in
+      record {
+        size = all .size;
+        count = omega (arith, all .count, one .count);
+        whole = all .whole ∙ one .whole;
+        total = λ n e. all .total (n + 1) (one .total n e) ∙ omega arith;
+        next = λ n e. all .next (n + 1) (one .next n e) ∙ omega arith;
+        numbers = λ n e. all .numbers (n + 1) (one .next n e) ∙ rw (one .numbers n e) (append-assoc (numbersIn (alertsIn (p .result))) (numbersFrom n 1) (numbersFrom (n + 1) (length rest)));
+      }
 
-  pub three-reported : (c : AfterChecks) {clean : InspectResult} {one two three : Pushed}
-      → clean ≡ cleanResult source
-      → one ≡ foldl (reportedNext source sourceNumber time) (record { result = clean; counters = c .monitor .totals .alerts }) (findingsOf (c .first))
-      → two ≡ foldl (reportedNext source sourceNumber time) one (findingsOf (c .second))
-      → three ≡ foldl (reportedNext source sourceNumber time) two (findingsOf (c .third))
-      → record { monitor = withAlerts (c .monitor) (three .counters); result = three .result } ≡ reported source sourceNumber time (checkedOf c)
-  unfolding reported
-  three-reported c {clean} {one} {two} {three} e a b d = ap (λ (p : Pushed). record { monitor = withAlerts (c .monitor) (p .counters); result = p .result }) whole
-    where
-      f : Pushed → Finding → Pushed
-      f = reportedNext source sourceNumber time
+-- an inspection's alerts, numbered and counted from the monitor that its checks left
+pub record Reports (m : Iec61850Monitor) (i : Inspected) : Type 0 where
+  pub few : AtMostThree (i .result)
+  pub total : Grows saturating (totalAlerts m) (length (alertsIn (i .result))) (totalAlerts (i .monitor))
+  pub next : Grows wrapping (nextNumber m) (length (alertsIn (i .result))) (nextNumber (i .monitor))
+  pub numbers : (n : ℕ) → nextNumber m ≡ wrapping n → numbersIn (alertsIn (i .result)) ≡ numbersFrom n (length (alertsIn (i .result)))
 
-      start : InspectResult → Pushed
-      start r = record { result = r; counters = c .monitor .totals .alerts }
-
-      whole : three ≡ foldl f (start (cleanResult source)) (findingsOf (c .first) ++ (findingsOf (c .second) ++ findingsOf (c .third)))
-      whole =
-          d
-          ∙ ap (λ (p : Pushed). foldl f p (findingsOf (c .third))) (b ∙ ap (λ (p : Pushed). foldl f p (findingsOf (c .second))) (a ∙ ap (λ (r : InspectResult). foldl f (start r) (findingsOf (c .first))) e))
-          ∙ sym (foldl-append f _ (findingsOf (c .first)) (findingsOf (c .second) ++ findingsOf (c .third)) ∙ foldl-append f _ (findingsOf (c .second)) (findingsOf (c .third)))
+pub reports : (source sourceNumber time : ℕ) (c : Checked) → length (c .findings) ≤ 3 → Reports (c .monitor) (reported source sourceNumber time c)
+unfolding reported cleanResult
+reports source sourceNumber time c h =
+    let start : Pushed = record { result = cleanResult source; counters = c .monitor .totals .alerts } in
+    let all = pushes-all source sourceNumber time start (c .findings) refl (omega arith) in
+    let r = reported source sourceNumber time c .result in
+    let count : r .«alert_count» ≡ length (c .findings) = omega (arith, all .count) in
+    let size : length (alertsIn r) ≡ r .«alert_count» = length-take-le (r .«alert_count») (r .alerts) (omega (arith, all .size, count)) in
+    record {
+      few = record { counted = size; few = omega arith; whole = all .whole };
+      total = rw (size ∙ count) (all .total);
+      next = rw (size ∙ count) (all .next);
+      numbers = rw (size ∙ count) (all .numbers);
+    }

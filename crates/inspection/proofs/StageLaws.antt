@@ -1,23 +1,26 @@
 -- What the stages of an inspection find, each way out of a stage as a law.
 use Prim.Native.Nat.{ℕ, _≤_}
 use mathlib.Core.Bool.{Bool, true, false, _&&_, _||_, cond}
-use mathlib.Core.List.{List, [], _∷_, _++_, append-nil}
+use mathlib.Core.List.{List, [], _∷_, _++_, append-nil, foldl, foldl-append}
 use mathlib.Core.Path.{_≡_, refl, sym, ap, _∙_}
 use native.Mathlib.Omega.{arith}
 use borrow.Author.Tests.{lt-ltb, eq-eqb, ne-eqb}
 use lib.Dec.{eqb, ltb}
 use lib.ListN.{length, getD, List·getD-eq-default}
+use Rattle.records.specs.declared.alert.AlertSeverity.{AlertSeverity}
 use Rattle.records.specs.declared.alert.AlertSeverity.the-variants.{Medium}
+use Rattle.records.specs.declared.alert.AlertCode.{AlertCode}
 use Rattle.records.specs.declared.alert.AlertCode.the-variants.{RateExceeded, SvRateAnomaly}
 use Rattle.records.specs.declared.frame.GooseFrame.{GooseFrame}
 use Rattle.records.specs.declared.error.VsError.{VsError}
 use Rattle.records.specs.declared.frame.MmsFrame.{MmsFrame}
 use Rattle.records.specs.declared.frame.SvFrame.{SvFrame}
 use Rattle.records.specs.declared.result.InspectResult.{InspectResult}
+use Rattle.records.specs.declared.result.Pushed.{Pushed}
 use Rattle.records.specs.Alert.{sourceSv}
-use Rattle.records.specs.Result.{cleanResult}
+use Rattle.records.specs.Result.{cleanResult, pushed}
 use Rattle.records.specs.Service.{serviceNumber}
-use Rattle.records.proofs.Booleans.{cond-yes, cond-no}
+use Rattle.records.proofs.Booleans.{and-true, and-false, cond-yes, cond-no}
 use Rattle.wire.specs.declared.sv.Parsed.{Parsed}
 use Rattle.wire.specs.declared.sv.Parsed.the-variants.{Frame, Error}
 use Rattle.wire.specs.declared.sv.ParsedSv.{ParsedSv}
@@ -33,6 +36,7 @@ use Rattle.inspection.specs.declared.monitor.Iec61850Monitor.{Iec61850Mo
 use Rattle.inspection.specs.declared.monitor.Inspected.{Inspected}
 use Rattle.inspection.specs.declared.rate.RateChecked.{RateChecked}
 use Rattle.inspection.specs.declared.reservation.Reserved.{Reserved}
+use Rattle.inspection.specs.declared.report.AfterChecks.{AfterChecks}
 use Rattle.inspection.specs.declared.report.CheckAlert.{CheckAlert}
 use Rattle.inspection.specs.declared.report.CheckAlert.the-variants.{Nothing}
 use Rattle.inspection.specs.declared.rules.RuleCheck.{RuleCheck}
@@ -52,12 +56,49 @@ use Rattle.inspection.specs.GooseSeq.{controlBlock, gooseTimed, retxChec
 use Rattle.inspection.specs.InspectGoose.{goosePair, streamFindings, gooseStream, gooseClock, gooseTimeField}
 use Rattle.inspection.specs.InspectMms.{domainName, fullFindings, mmsReserved, mmsControl, mmsRated, mmsRate, mmsRule}
 use Rattle.inspection.specs.InspectSv.{svPair, rateFindings, countFindings, svCount, svClock, svTimeField, svRuleCheck, inspectSv, rawInspected, inspectRawSv}
-use Rattle.inspection.specs.Monitor.{withReservations, withRates, withClocks, withGooseStreams, withSvStreams}
-use Rattle.inspection.specs.Report.{Finding, Checked, refusal, clockFindings, ended, findingsOf, checkedOf}
+use Rattle.inspection.specs.Monitor.{withAlerts, withReservations, withRates, withClocks, withGooseStreams, withSvStreams}
+use Rattle.inspection.specs.Report.{Finding, Checked, refusal, notice, clockFindings, ended, withAllowed, reportedNext, reported, findingsOf, checkedOf}
 use Rattle.inspection.specs.SvSeq.{svKey, isReplay, svChecked}
 use Rattle.inspection.specs.Rate.{rateChecked}
 use Rattle.inspection.specs.Reservation.{reserved, released}
 use Rattle.inspection.specs.TimeField.{timeChecked}
+
+-- ---- the code: alerts added one by one, and the counters put back
+
+module _ (source sourceNumber time : ℕ) where
+  -- a result refused before its alert is added
+  pub refusal-added : (p : Pushed) (severity : AlertSeverity) (code : AlertCode)
+      → pushed (withAllowed (p .result) false) (p .counters) severity source sourceNumber time code ≡ reportedNext source sourceNumber time p (refusal severity code)
+  refusal-added p severity code =
+      ap (λ (b : Bool). pushed (withAllowed (p .result) b) (p .counters) severity source sourceNumber time code) (sym (and-false (p .result .allowed)))
+
+  pub notice-added : (p : Pushed) (severity : AlertSeverity) (code : AlertCode)
+      → pushed (p .result) (p .counters) severity source sourceNumber time code ≡ reportedNext source sourceNumber time p (notice severity code)
+  notice-added p severity code =
+      ap (λ (b : Bool). pushed (withAllowed (p .result) b) (p .counters) severity source sourceNumber time code) (sym (and-true (p .result .allowed)))
+
+  pub three-reported : (c : AfterChecks) {clean : InspectResult} {one two three : Pushed}
+      → clean ≡ cleanResult source
+      → one ≡ foldl (reportedNext source sourceNumber time) (record { result = clean; counters = c .monitor .totals .alerts }) (findingsOf (c .first))
+      → two ≡ foldl (reportedNext source sourceNumber time) one (findingsOf (c .second))
+      → three ≡ foldl (reportedNext source sourceNumber time) two (findingsOf (c .third))
+      → record { monitor = withAlerts (c .monitor) (three .counters); result = three .result } ≡ reported source sourceNumber time (checkedOf c)
+  unfolding reported
+  three-reported c {clean} {one} {two} {three} e a b d = ap (λ (p : Pushed). record { monitor = withAlerts (c .monitor) (p .counters); result = p .result }) whole
+    where
+      f : Pushed → Finding → Pushed
+      f = reportedNext source sourceNumber time
+
+      start : InspectResult → Pushed
+      start r = record { result = r; counters = c .monitor .totals .alerts }
+
+      whole : three ≡ foldl f (start (cleanResult source)) (findingsOf (c .first) ++ (findingsOf (c .second) ++ findingsOf (c .third)))
+      whole =
+          d
+          ∙ ap (λ (p : Pushed). foldl f p (findingsOf (c .third))) (b ∙ ap (λ (p : Pushed). foldl f p (findingsOf (c .second))) (a ∙ ap (λ (r : InspectResult). foldl f (start r) (findingsOf (c .first))) e))
+          ∙ sym (foldl-append f _ (findingsOf (c .first)) (findingsOf (c .second) ++ findingsOf (c .third)) ∙ foldl-append f _ (findingsOf (c .second)) (findingsOf (c .third)))
+
+-- ---- tests and places
 
 pub nonzero : (n : ℕ) → ¬ (n ≡ 0) → ltb 0 n ≡ true
 nonzero n d = lt-ltb 0 n (omega (arith, d))

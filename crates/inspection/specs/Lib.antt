@@ -15,6 +15,7 @@ pub mod InspectMms
 pub mod InspectGoose
 pub mod InspectSv
 pub mod Calls
+pub mod CallTheorems
 pub mod Demand3
 pub mod Demand3Mixed
 pub mod Points

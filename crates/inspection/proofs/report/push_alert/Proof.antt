@@ -1,5 +1,5 @@
 -- `push_alert` meets its contract.
-use Rattle.inspection.proofs.ReportLaws.{refusal-added, notice-added}
+use Rattle.inspection.proofs.StageLaws.{refusal-added, notice-added}
 use mathlib.Core.Path.{_∙_}
 use borrow.Author.Needs.{needs}
 use Rattle.inspection.proofs.report.push_alert.Statement.{statement}

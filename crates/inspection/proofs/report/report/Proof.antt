@@ -1,5 +1,5 @@
 -- `report` meets its contract.
-use Rattle.inspection.proofs.ReportLaws.{three-reported}
+use Rattle.inspection.proofs.StageLaws.{three-reported}
 use Rattle.inspection.specs.Report.{reported}
 use borrow.Author.Needs.{needs}
 use Rattle.inspection.proofs.report.report.Statement.{statement}
