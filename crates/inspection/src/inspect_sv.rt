@@ -114,13 +114,14 @@ fn sv_streams(m: Iec61850Monitor, f: SvFrame, rate: u16) -> AfterChecks
     let kept_clocks = clock.table;
     let kept_streams = count.table;
     let outcome = count.outcome;
+    let replay = outcome.is_replay();
     out.time_trackers = kept_clocks;
     out.sv_seq = kept_streams;
     AfterChecks {
         monitor: out,
         first: clock_alert(clock.alert),
         second: count_alert(outcome, out.settings.sv_max_smp_cnt_gap),
-        third: rate_alert(outcome.is_replay(), f.smp_rate, rate),
+        third: rate_alert(replay, f.smp_rate, rate),
     }
 }
 
