@@ -83,26 +83,30 @@ inspects m m′ frames source sourceNumber time c d k =
           };
     }
 
+-- a total that the frame is not counted in
+same-total : (x : ℕ) → Grows saturating x 0 x
+same-total x = grows-none saturating refl
+
 module _ (m : Iec61850Monitor) where
   pub mms-inspects : (f : MmsFrame) → Inspects m (inspectMms m f .monitor) (inspectMms m f .result) (1, 0, 0)
   unfolding inspectMms countedMms
   mms-inspects f =
       inspects m (countedMms m) (1, 0, 0) sourceMms (f .«invoke_id») (f .«timestamp_us») (mmsChecks (countedMms m) f)
-      (record { same = record { settings = refl; rules = refl }; mms = grows-one _; goose = grows-none saturating refl; sv = grows-none saturating refl; alerts = refl })
+      (record { same = record { settings = refl; rules = refl }; mms = grows-one _; goose = same-total _; sv = same-total _; alerts = refl })
       (mms-kept (countedMms m) f)
 
   pub goose-inspects : (f : GooseFrame) → Inspects m (inspectGoose m f .monitor) (inspectGoose m f .result) (0, 1, 0)
   unfolding inspectGoose countedGoose
   goose-inspects f =
       inspects m (countedGoose m) (0, 1, 0) sourceGoose (f .«st_num») (f .«timestamp_us») (gooseTest (countedGoose m) f)
-      (record { same = record { settings = refl; rules = refl }; mms = grows-none saturating refl; goose = grows-one _; sv = grows-none saturating refl; alerts = refl })
+      (record { same = record { settings = refl; rules = refl }; mms = same-total _; goose = grows-one _; sv = same-total _; alerts = refl })
       (goose-kept (countedGoose m) f)
 
   pub sv-inspects : (f : SvFrame) → Inspects m (inspectSv m f .monitor) (inspectSv m f .result) (0, 0, 1)
   unfolding inspectSv countedSv
   sv-inspects f =
       inspects m (countedSv m) (0, 0, 1) sourceSv (f .«smp_cnt») (f .«timestamp_us») (svBinding (countedSv m) f)
-      (record { same = record { settings = refl; rules = refl }; mms = grows-none saturating refl; goose = grows-none saturating refl; sv = grows-one _; alerts = refl })
+      (record { same = record { settings = refl; rules = refl }; mms = same-total _; goose = same-total _; sv = grows-one _; alerts = refl })
       (sv-kept (countedSv m) f)
 
   parsed-inspects : (a : Parsed) (f : SvFrame) → Inspects m (rawInspected m a f .monitor) (rawInspected m a f .result) (0, 0, framesRead a)

@@ -46,7 +46,9 @@ inspections-keep-rules m (reset ∷ calls) h = absurd h
 module _ (reduce : ℕ → ℕ) (first : ℕ) (number : Iec61850Monitor → ℕ) (adds : Iec61850Monitor → Call → ℕ)
     (step : (m : Iec61850Monitor) (c : Call) (n : ℕ) → number m ≡ reduce n → number (called m c) ≡ reduce (unlessReset c first (n + adds m c)))
   where
-    counts-from : (m : Iec61850Monitor) (n : ℕ) (calls : List Call) → number m ≡ reduce n → number (afterCalls m calls) ≡ reduce (countFrom adds first m n calls)
+    counts-from :
+        (m : Iec61850Monitor) (n : ℕ) (calls : List Call)
+        → number m ≡ reduce n → number (afterCalls m calls) ≡ reduce (countFrom adds first m n calls)
     counts-from m n [] e = e
     counts-from m n (c ∷ calls) e = counts-from (called m c) (unlessReset c first (n + adds m c)) calls (step m c n e)
 

@@ -11,10 +11,10 @@ use Rattle.records.specs.declared.alert.AlertSeverity.the-variants.{Medium}
 use Rattle.records.specs.declared.alert.AlertCode.the-variants.{PolicyViolation}
 use Rattle.records.specs.declared.frame.GooseFrame.{GooseFrame}
 use Rattle.records.specs.declared.frame.SvFrame.{SvFrame}
-use Rattle.records.specs.Search.{firstFrom, lastBelow}
 use Rattle.records.specs.declared.schedule.RetxSchedule.{RetxSchedule}
+use Rattle.records.specs.Search.{firstFrom, lastBelow}
 use Rattle.records.specs.Table.{valueOf}
-use Rattle.records.proofs.Booleans.{and-false}
+use Rattle.records.proofs.Booleans.{and-false, cond-holds}
 use Rattle.records.proofs.Distinguish.{outputs}
 use Rattle.inspection.specs.declared.goose_seq.GooseSeqTable.{GooseSeqTable}
 use Rattle.inspection.specs.declared.monitor.Iec61850Monitor.{Iec61850Monitor}
@@ -22,8 +22,6 @@ use Rattle.inspection.specs.declared.reservation.CbChecked.{CbChecked}
 use Rattle.inspection.specs.declared.settings.Settings.{Settings}
 use Rattle.inspection.specs.declared.sv_publisher.SvPublishers.{SvPublishers}
 use Rattle.inspection.specs.declared.sv_publisher.PublisherMatch.the-variants.{NotRegistered}
-use Rattle.inspection.specs.declared.sv_seq.SvSeqTable.{SvSeqTable}
-use Rattle.inspection.specs.declared.time_field.TimeTrackers.{TimeTrackers}
 use Rattle.inspection.specs.declared.time_field.TimeChecked.{TimeChecked}
 use Rattle.inspection.specs.Address.{addressOf}
 use Rattle.inspection.specs.Demand3.{Inspection, goose, sv, inspect, afterHistory, answers, Answer, answerOf, Premises}
@@ -31,7 +29,7 @@ use Rattle.inspection.specs.GooseSeq.{gooseKey, gooseTimed, gooseStreams
 use Rattle.inspection.specs.InspectGoose.{goosePair, blocked, streamFindings, gooseTest, gooseAllowed, gooseReservation, gooseTimeField, inspectGoose}
 use Rattle.inspection.specs.InspectSv.{svPair, rateFindings, countFindings, svTimeField, svReservation, svBinding, inspectSv}
 use Rattle.inspection.specs.Monitor.{countedGoose, countedSv}
-use Rattle.inspection.specs.Report.{Finding, refusal, clockFindings, ended, reported}
+use Rattle.inspection.specs.Report.{Finding, Checked, refusal, clockFindings, ended, reported}
 use Rattle.inspection.specs.Reservation.{reservesAt, reservationOf, cbChecked, noReservations}
 use Rattle.inspection.specs.SvPublisher.{svPublisher}
 use Rattle.inspection.specs.SvSeq.{svKey, svChecked}
@@ -73,11 +71,7 @@ notReserved = record { table = noReservations; hijack = false }
 
 no-hijack : (name : List ℕ) (isGoose : Bool) (address : ℕ) → cbChecked noReservations name isGoose address ≡ notReserved
 unfolding cbChecked reservationOf reservesAt firstFrom
-no-hijack name isGoose address = go (eqb (length name) 0)
-  where
-    go : (b : Bool) → cond b notReserved notReserved ≡ notReserved
-    go true = refl
-    go false = refl
+no-hijack name isGoose address = cond-holds (λ (c : CbChecked). c ≡ notReserved) (eqb (length name) 0) refl refl
 
 not-registered : (p : SvPublishers) (address : ℕ) (svid : List ℕ) → p .count ≡ 0 → svPublisher p address svid ≡ NotRegistered
 unfolding svPublisher lastBelow
@@ -87,13 +81,17 @@ no-rate : (frameRate : ℕ) → rateFindings frameRate 0 ≡ []
 unfolding rateFindings
 no-rate frameRate = rw (and-false (ltb 0 frameRate))
 
+-- the checks of a counted GOOSE frame, blocked or not
+abbrev unlessBlocked : Iec61850Monitor → GooseFrame → Bool → Checked
+unlessBlocked m f b = cond b (ended (countedGoose m) (refusal Medium PolicyViolation ∷ [])) (gooseTimeField (countedGoose m) f)
+
 module _ (m : Iec61850Monitor) (p : Premises m) (free : m .«cb_reservations» ≡ noReservations) where
   sv-checks : (f : SvFrame) → svBinding (countedSv m) f ≡ svTimeField (countedSv m) f 0
   unfolding svBinding svReservation countedSv
   sv-checks f =
       rw (not-registered (m .rules .sv) (addressOf (f .«src_mac»)) (svKey f) (p .no-sv-publisher), p .no-sv-publisher, and-false, free, no-hijack)
 
-  goose-checks : (f : GooseFrame) → gooseTest (countedGoose m) f ≡ cond (blocked (m .settings) f) (ended (countedGoose m) (refusal Medium PolicyViolation ∷ [])) (gooseTimeField (countedGoose m) f)
+  goose-checks : (f : GooseFrame) → gooseTest (countedGoose m) f ≡ unlessBlocked m f (blocked (m .settings) f)
   unfolding gooseTest gooseAllowed gooseReservation countedGoose
   goose-checks f = rw (p .no-goose-publisher, free, no-hijack)
 
@@ -132,8 +130,7 @@ module _ (m : Iec61850Monitor) (p : Premises m) (free : m .«cb_reservations» �
   unfolding inspectGoose gooseTimeField reported countedGoose
   goose-done f = go (blocked (m .settings) f) (goose-checks m p free f) refl
     where
-      go : (b : Bool) → gooseTest (countedGoose m) f ≡ cond b (ended (countedGoose m) (refusal Medium PolicyViolation ∷ [])) (gooseTimeField (countedGoose m) f)
-          → blocked (m .settings) f ≡ b → Done m (goose f)
+      go : (b : Bool) → gooseTest (countedGoose m) f ≡ unlessBlocked m f b → blocked (m .settings) f ≡ b → Done m (goose f)
       go true e q = record {
         settings = goose-inspects m f .same .settings;
         rules = goose-inspects m f .same .rules;
@@ -148,7 +145,8 @@ module _ (m : Iec61850Monitor) (p : Premises m) (free : m .«cb_reservations» �
         tables = rw (e, q);
         answer =
             rw (e, q)
-            (reported-answer _ _ _ (gooseTimeField (countedGoose m) f) (omega (arith, goose-time-field (countedGoose m) f .few)) ∙ rw (p .not-enforced, not-enforced));
+            (reported-answer _ _ _ (gooseTimeField (countedGoose m) f) (omega (arith, goose-time-field (countedGoose m) f .few))
+            ∙ rw (p .not-enforced, not-enforced));
       }
 
   pub done : (x : Inspection) → Done m x

@@ -11,7 +11,6 @@ use borrow.Author.Tests.{lt-ltb}
 use lib.ListN.{length, set, take, length-append, length-set}
 use lib.Seq.{length-take-le, take-suc-set}
 use Rattle.records.specs.declared.alert.CodedAlert.{CodedAlert}
-use Rattle.records.specs.declared.result.InspectResult.{InspectResult}
 use Rattle.records.specs.declared.result.Pushed.{Pushed}
 use Rattle.records.specs.Alert.{denies, codeNumber, alertOf}
 use Rattle.records.specs.Counter.{saturated}
@@ -36,12 +35,16 @@ abbrev code : CodedAlert → ℕ
 code a = codeNumber (a .code)
 
 -- what is read of each alert, codes or numbers, with one more alert in the next slot
-pub slots-more : (read : CodedAlert → ℕ) (l : List CodedAlert) (k : ℕ) (a : CodedAlert) → k < length l → map read (take (k + 1) (set l k a)) ≡ map read (take k l) ++ read a ∷ []
+pub slots-more :
+    (read : CodedAlert → ℕ) (l : List CodedAlert) (k : ℕ) (a : CodedAlert)
+    → k < length l → map read (take (k + 1) (set l k a)) ≡ map read (take k l) ++ read a ∷ []
 slots-more read l k a h = rw (add-one, take-suc-set l k a h) (map-append read (take k l) (a ∷ []))
 
 module _ (source sourceNumber time : ℕ) where
   -- a result with slots for all findings
-  answer-reported : (p : Pushed) (findings : List Finding) → length (p .result .alerts) ≡ 4 → p .result .«alert_count» + length findings ≤ 4
+  answer-reported :
+      (p : Pushed) (findings : List Finding)
+      → length (p .result .alerts) ≡ 4 → p .result .«alert_count» + length findings ≤ 4
       → answerOf (foldl (reportedNext source sourceNumber time) p findings .result) ≡ answerFrom (p .result .allowed) (answerOf (p .result) .1) findings
   unfolding pushed withAlert allowedWith alertOf
   answer-reported p [] size h = refl
@@ -87,7 +90,9 @@ record Pushes (p q : Pushed) (k : ℕ) : Type 0 where
       → numbersIn (alertsIn (q .result)) ≡ numbersIn (alertsIn (p .result)) ++ numbersFrom n k
 
 module _ (source sourceNumber time : ℕ) where
-  pushes-one : (p : Pushed) (a : Finding) → length (p .result .alerts) ≡ 4 → p .result .«alert_count» < 4 → Pushes p (reportedNext source sourceNumber time p a) 1
+  pushes-one :
+      (p : Pushed) (a : Finding)
+      → length (p .result .alerts) ≡ 4 → p .result .«alert_count» < 4 → Pushes p (reportedNext source sourceNumber time p a) 1
   unfolding pushed withAlert alertOf counted
   pushes-one p a size h =
       let r = p .result in
@@ -101,7 +106,9 @@ module _ (source sourceNumber time : ℕ) where
         numbers = λ n e. rw full (slots-more (λ (x : CodedAlert). x .alert .id) (r .alerts) (r .«alert_count») _ (omega arith) ∙ rw e);
       }
 
-  pushes-all : (p : Pushed) (findings : List Finding) → length (p .result .alerts) ≡ 4 → p .result .«alert_count» + length findings ≤ 4
+  pushes-all :
+      (p : Pushed) (findings : List Finding)
+      → length (p .result .alerts) ≡ 4 → p .result .«alert_count» + length findings ≤ 4
       → Pushes p (foldl (reportedNext source sourceNumber time) p findings) (length findings)
   pushes-all p [] size h = record {
     size = size;
@@ -120,7 +127,9 @@ module _ (source sourceNumber time : ℕ) where
         whole = all .whole ∙ one .whole;
         total = λ n e. all .total (n + 1) (one .total n e) ∙ omega arith;
         next = λ n e. all .next (n + 1) (one .next n e) ∙ omega arith;
-        numbers = λ n e. all .numbers (n + 1) (one .next n e) ∙ rw (one .numbers n e) (append-assoc (numbersIn (alertsIn (p .result))) (numbersFrom n 1) (numbersFrom (n + 1) (length rest)));
+        numbers =
+            λ n e. all .numbers (n + 1) (one .next n e)
+            ∙ rw (one .numbers n e) (append-assoc (numbersIn (alertsIn (p .result))) (numbersFrom n 1) (numbersFrom (n + 1) (length rest)));
       }
 
 -- an inspection's alerts, numbered and counted from the monitor that its checks left

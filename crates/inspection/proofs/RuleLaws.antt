@@ -119,7 +119,8 @@ module _ (m : Iec61850Monitor) {said : Added} where
         → record { monitor = withRules m (m .rules .mms) longer (m .rules .sv); answer = said } ≡ addGoosePublisher m mac name
     unfolding addGoosePublisher
     goose-configured l s =
-        let new : ℕ → GoosePublishers = λ k. ifAdded (addAnswer (m .rules .goose .count) (length name)) (withGoosePublisher (m .rules .goose) k name) (m .rules .goose) in
+        let p = m .rules .goose in
+        let new : ℕ → GoosePublishers = λ k. ifAdded (addAnswer (p .count) (length name)) (withGoosePublisher p k name) p in
         configured-so (λ (t : GoosePublishers). withRules m (m .rules .mms) t (m .rules .sv)) _ _ _ (l ∙ ap new a) s
 
     pub sv-configured :
@@ -129,5 +130,6 @@ module _ (m : Iec61850Monitor) {said : Added} where
         → record { monitor = withRules m (m .rules .mms) (m .rules .goose) longer; answer = said } ≡ addSvPublisher m mac name rate
     unfolding addSvPublisher
     sv-configured rate l s =
-        let new : ℕ → SvPublishers = λ k. ifAdded (addAnswer (m .rules .sv .count) (length name)) (withSvPublisher (m .rules .sv) k name rate) (m .rules .sv) in
+        let p = m .rules .sv in
+        let new : ℕ → SvPublishers = λ k. ifAdded (addAnswer (p .count) (length name)) (withSvPublisher p k name rate) p in
         configured-so (λ (t : SvPublishers). withRules m (m .rules .mms) (m .rules .goose) t) _ _ _ (l ∙ ap new a) s

@@ -1,17 +1,10 @@
 -- `goose_allowed` meets its contract.
-use mathlib.Core.Bool.{_&&_, not}
-use mathlib.Core.Path.{_≡_, _∙_, sym, ap}
-use lib.Dec.{ltb}
-use lib.ListN.{length}
-use Rattle.records.proofs.Booleans.{cond-yes, cond-no}
-use Rattle.records.specs.declared.search.Found.{Found}
-use Rattle.records.specs.Search.{isFound}
-use Rattle.inspection.specs.Address.{addressOf}
-use Rattle.inspection.specs.GoosePublisher.{goosePublisher}
-use Rattle.inspection.specs.GooseSeq.{controlBlock}
-use Rattle.inspection.specs.InspectGoose.{gooseAllowed}
-use Rattle.inspection.proofs.StageLaws.{goose-sought}
+use mathlib.Core.Path.{_≡_, _∙_, sym}
 use borrow.Author.Needs.{needs}
+use lib.ListN.{length}
+use Rattle.records.proofs.Booleans.{cond-yes, cond-no, answered}
+use Rattle.inspection.specs.InspectGoose.{gooseAllowed}
+use Rattle.inspection.proofs.StageLaws.{gooseNotListed, goose-not-listed}
 use Rattle.inspection.proofs.inspect_goose.goose_allowed.Statement.{statement}
 use Rattle.inspection.proofs.inspect_goose.goose_allowed.Tie as tie
 
@@ -22,18 +15,15 @@ abbrev start : tie.After-not-listed → tie.Start
 start n = n .before .before .before .before .before .before .before .before .before .before .before .before .before
 
 -- what the test says, of the publishers themselves
-unlisted : (n : tie.After-not-listed)
-    → n .not-listed .result
-    ≡ (ltb 0 (start n .args .t1 .rules .goose .count)
-    && not (isFound (goosePublisher (start n .args .t1 .rules .goose) (addressOf (start n .args .t2 .«src_mac»)) (controlBlock (start n .args .t2)))))
+unlisted : (n : tie.After-not-listed) → n .not-listed .result ≡ gooseNotListed (start n .args .t1) (start n .args .t2)
 unlisted n =
+    let s = start n in
     let g = n .before in
     let a = g .before .before in
     let p = a .before .before .before .before .before in
     let v = p .before .before .before in
-    n .not-listed .ensures
-    ∙ ap (λ (f : Found). ltb 0 (start n .args .t1 .rules .goose .count) && not (isFound f))
-    (goose-sought _ _ (size (start n)) (v .valid-len .ensures) (p .padded .ensures) _ (a .address-of .ensures) (start n .args .t1 .rules .goose) (g .goose-publisher .ensures))
+    goose-not-listed (s .args .t1) (s .args .t2) (size s) (v .valid-len .ensures) (p .padded .ensures) (a .address-of .ensures)
+    (g .goose-publisher .ensures) (n .not-listed .ensures)
 
 valid-len-requires : tie.Need-valid-len-requires
 valid-len-requires c κs = search needs
@@ -55,14 +45,25 @@ ended-requires c κs = search needs
 
 returns : tie.Need-returns
 unfolding gooseAllowed
-returns c = c .ended .ensures ∙ sym (cond-yes _ _ (sym (unlisted (c .before .before)) ∙ c .before .if1 .taken))
+returns c = c .ended .ensures ∙ sym (cond-yes _ _ (answered (unlisted (c .before .before)) (c .before .if1 .taken)))
 
 goose-reservation-requires : tie.Need-goose-reservation-requires
 goose-reservation-requires c κs = search needs
 
 returns-2 : tie.Need-returns-2
 unfolding gooseAllowed
-returns-2 c = c .goose-reservation .ensures ∙ sym (cond-no _ _ (sym (unlisted (c .before .before)) ∙ c .before .if1 .left))
+returns-2 c = c .goose-reservation .ensures ∙ sym (cond-no _ _ (answered (unlisted (c .before .before)) (c .before .if1 .left)))
 
 pub goose-allowed-spec : {M : Type 1} → statement M
-goose-allowed-spec = tie.close (tie.spec valid-len-requires padded-requires address-of-requires goose-publisher-requires not-listed-requires ended-requires returns goose-reservation-requires returns-2)
+goose-allowed-spec =
+    tie.close
+    (tie.spec
+    valid-len-requires
+    padded-requires
+    address-of-requires
+    goose-publisher-requires
+    not-listed-requires
+    ended-requires
+    returns
+    goose-reservation-requires
+    returns-2)

@@ -1,11 +1,8 @@
 -- `goose_reservation` meets its contract.
-use mathlib.Core.Bool.{true}
-use mathlib.Core.Path.{_∙_, sym, ap}
-use Rattle.records.proofs.Booleans.{cond-yes, cond-no}
-use Rattle.inspection.specs.GooseSeq.{controlBlock}
-use Rattle.inspection.specs.InspectGoose.{gooseBound, gooseReservation}
-use Rattle.inspection.specs.Reservation.{cbChecked}
+use mathlib.Core.Path.{_∙_, sym}
 use borrow.Author.Needs.{needs}
+use Rattle.records.proofs.Booleans.{cond-yes, cond-no}
+use Rattle.inspection.proofs.StageLaws.{goose-used}
 use Rattle.inspection.proofs.inspect_goose.goose_reservation.Statement.{statement}
 use Rattle.inspection.proofs.inspect_goose.goose_reservation.Tie as tie
 
@@ -19,15 +16,31 @@ ended-requires : tie.Need-ended-requires
 ended-requires c κs = search needs
 
 returns : tie.Need-returns
-unfolding gooseReservation
-returns c = let k = c .before .before .before in let s = k .before .before .before .before .before in c .ended .ensures ∙ sym (cond-yes _ _ (c .before .if1 .taken)) ∙ ap (gooseBound (s .args .m) (s .args .f)) (k .cb-hijack-check .ensures ∙ ap (cbChecked (s .args .m .«cb_reservations») (controlBlock (s .args .f)) true) (k .before .address-of .ensures))
+returns c =
+    let k = c .before .before .before in
+    let s = k .before .before .before .before .before in
+    c .ended .ensures
+    ∙ sym (cond-yes _ _ (c .before .if1 .taken))
+    ∙ goose-used (s .args .m) (s .args .f) (k .before .address-of .ensures) (k .cb-hijack-check .ensures)
 
 goose-streams-requires : tie.Need-goose-streams-requires
 goose-streams-requires c κs = search needs
 
 returns-2 : tie.Need-returns-2
-unfolding gooseReservation
-returns-2 c = let k = c .before .before .before in let s = k .before .before .before .before .before in c .goose-streams .ensures ∙ sym (cond-no _ _ (c .before .if1 .left)) ∙ ap (gooseBound (s .args .m) (s .args .f)) (k .cb-hijack-check .ensures ∙ ap (cbChecked (s .args .m .«cb_reservations») (controlBlock (s .args .f)) true) (k .before .address-of .ensures))
+returns-2 c =
+    let k = c .before .before .before in
+    let s = k .before .before .before .before .before in
+    c .goose-streams .ensures
+    ∙ sym (cond-no _ _ (c .before .if1 .left))
+    ∙ goose-used (s .args .m) (s .args .f) (k .before .address-of .ensures) (k .cb-hijack-check .ensures)
 
 pub goose-reservation-spec : {M : Type 1} → statement M
-goose-reservation-spec = tie.close (tie.spec address-of-requires cb-hijack-check-requires ended-requires returns goose-streams-requires returns-2)
+goose-reservation-spec =
+    tie.close
+    (tie.spec
+    address-of-requires
+    cb-hijack-check-requires
+    ended-requires
+    returns
+    goose-streams-requires
+    returns-2)

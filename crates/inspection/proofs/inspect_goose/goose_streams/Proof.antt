@@ -1,8 +1,6 @@
 -- `goose_streams` meets its contract.
-use Rattle.inspection.specs.declared.report.CheckAlert.the-variants.{Nothing}
-use mathlib.Core.Path.{refl}
-use Rattle.inspection.proofs.StageLaws.{goose-streams-checked}
 use borrow.Author.Needs.{needs}
+use Rattle.inspection.proofs.StageLaws.{goose-streams-checked}
 use Rattle.inspection.proofs.inspect_goose.goose_streams.Statement.{statement}
 use Rattle.inspection.proofs.inspect_goose.goose_streams.Tie as tie
 
@@ -28,7 +26,26 @@ stream-alert-requires : tie.Need-stream-alert-requires
 stream-alert-requires c κs = search needs
 
 returns : tie.Need-returns
-returns c = let k = c .before .before .before .before in let x = k .before in let n = x .before .before .before in let t = n .before .before in let s = t .before .before .before .before in goose-streams-checked (s .args .m) (c .before .clock-alert .result) (c .stream-alert .result) Nothing (c .before .clock-alert .ensures) (s .args .f) (t .before .before .address-of .ensures) (n .name-hash .ensures) (t .check-time-field .ensures) (x .goose-retx .ensures) (k .check-goose-seq .ensures) (c .stream-alert .ensures) refl
+returns c =
+    let a = c .before in
+    let k = a .before .before .before in
+    let x = k .before in
+    let n = x .before .before .before in
+    let t = n .before .before in
+    let s = t .before .before .before .before in
+    goose-streams-checked (s .args .m) (s .args .f) (a .clock-alert .result) (c .stream-alert .result)
+    (t .before .before .address-of .ensures) (n .name-hash .ensures) (t .check-time-field .ensures) (x .goose-retx .ensures)
+    (k .check-goose-seq .ensures) (a .clock-alert .ensures) (c .stream-alert .ensures)
 
 pub goose-streams-spec : {M : Type 1} → statement M
-goose-streams-spec = tie.close (tie.spec address-of-requires check-time-field-requires name-hash-requires goose-retx-requires check-goose-seq-requires clock-alert-requires stream-alert-requires returns)
+goose-streams-spec =
+    tie.close
+    (tie.spec
+    address-of-requires
+    check-time-field-requires
+    name-hash-requires
+    goose-retx-requires
+    check-goose-seq-requires
+    clock-alert-requires
+    stream-alert-requires
+    returns)

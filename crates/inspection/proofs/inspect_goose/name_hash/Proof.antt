@@ -1,12 +1,11 @@
 -- `name_hash` meets its contract.
 use Prim.Native.Nat.{ℕ}
-use mathlib.Core.Path.{sym, ap}
+use mathlib.Core.Path.{sym, ap, _∙_}
 use native.Mathlib.Omega.{arith}
+use borrow.Author.Needs.{needs}
 use lib.ListN.{take}
 use lib.Seq.{length-take-le}
 use Rattle.records.specs.Hash.{fnv1a}
-use mathlib.Core.Path.{_∙_}
-use borrow.Author.Needs.{needs}
 use Rattle.inspection.proofs.inspect_goose.name_hash.Statement.{statement}
 use Rattle.inspection.proofs.inspect_goose.name_hash.Tie as tie
 
@@ -26,7 +25,17 @@ fnv1a-32-requires : tie.Need-fnv1a-32-requires
 fnv1a-32-requires c κs = search needs
 
 returns : tie.Need-returns
-returns c = c .fnv1a-32 .ensures ∙ ap (λ (n : ℕ). fnv1a (take n (c .before .before .before .args .t1))) (c .before .before .valid-len .ensures)
+returns c =
+    let v = c .before .before in
+    c .fnv1a-32 .ensures ∙ ap (λ (n : ℕ). fnv1a (take n (v .before .args .t1))) (v .valid-len .ensures)
 
 pub name-hash-spec : {M : Type 1} → statement M
-name-hash-spec = tie.close (tie.spec valid-len-requires cast-n array-share-prefix-go-cb-ref slice-aggregate-fnv1a-32 fnv1a-32-requires returns)
+name-hash-spec =
+    tie.close
+    (tie.spec
+    valid-len-requires
+    cast-n
+    array-share-prefix-go-cb-ref
+    slice-aggregate-fnv1a-32
+    fnv1a-32-requires
+    returns)

@@ -1,6 +1,6 @@
 -- `not_listed` meets its contract.
-use Rattle.records.proofs.Booleans.{and-true, and-false}
 use borrow.Author.Needs.{needs}
+use Rattle.records.proofs.Booleans.{and-true, and-false}
 use Rattle.inspection.proofs.inspect_goose.not_listed.Statement.{statement}
 use Rattle.inspection.proofs.inspect_goose.not_listed.Tie as tie
 

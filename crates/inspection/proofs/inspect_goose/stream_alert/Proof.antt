@@ -1,5 +1,4 @@
 -- `stream_alert` meets its contract.
-use borrow.Author.Needs.{needs}
 use Rattle.inspection.proofs.inspect_goose.stream_alert.Statement.{statement}
 use Rattle.inspection.proofs.inspect_goose.stream_alert.Tie as tie
 

@@ -1,5 +1,4 @@
 -- `full_alert` meets its contract.
-use borrow.Author.Needs.{needs}
 use Rattle.inspection.proofs.inspect_mms.full_alert.Statement.{statement}
 use Rattle.inspection.proofs.inspect_mms.full_alert.Tie as tie
 

@@ -1,10 +1,8 @@
 -- `masked` meets its contract.
-use Rattle.inspection.proofs.StageLaws.{nonzero}
-use native.Mathlib.Omega.{arith}
-use borrow.Author.Tests.{lt-ltb}
 use mathlib.Core.Bool.{not}
 use mathlib.Core.Path.{ap}
 use borrow.Author.Needs.{needs}
+use Rattle.inspection.proofs.StageLaws.{nonzero}
 use Rattle.inspection.proofs.inspect_mms.masked.Statement.{statement}
 use Rattle.inspection.proofs.inspect_mms.masked.Tie as tie
 

@@ -1,9 +1,10 @@
 -- `mms_checks` meets its contract.
-use mathlib.Core.Path.{_≡_, _∙_, sym, ap}
-use Rattle.records.specs.Service.{isWrite}
+use mathlib.Core.Path.{_≡_, _∙_, ap}
+use borrow.Author.Needs.{needs}
+use Rattle.records.proofs.Booleans.{answered}
 use Rattle.inspection.specs.InspectMms.{mmsMask, mmsChecks}
 use Rattle.inspection.specs.Report.{permitted}
-use borrow.Author.Needs.{needs}
+use Rattle.inspection.proofs.StageLaws.{mmsRuled}
 use Rattle.inspection.proofs.inspect_mms.mms_checks.Statement.{statement}
 use Rattle.inspection.proofs.inspect_mms.mms_checks.Tie as tie
 
@@ -11,9 +12,8 @@ abbrev start : tie.After-mms-mask → tie.Start
 start n = n .before .before .before .before
 
 -- what the rules say, by the frame's own service
-ruled : (n : tie.After-mms-mask)
-    → n .mms-mask .result ≡ mmsMask (start n .args .m .settings) (start n .args .m .rules .mms) (start n .args .f .«raw_service_type») (isWrite (start n .args .f .«service_type»))
-ruled n = n .mms-mask .ensures ∙ ap (mmsMask (start n .args .m .settings) (start n .args .m .rules .mms) (start n .args .f .«raw_service_type»)) (n .before .is-write .ensures)
+ruled : (n : tie.After-mms-mask) → n .mms-mask .result ≡ mmsRuled (start n .args .m) (start n .args .f)
+ruled n = n .mms-mask .ensures ∙ ap (mmsMask (start n .args .m .settings) (start n .args .m .rules .mms) _) (n .before .is-write .ensures)
 
 is-write-requires : tie.Need-is-write-requires
 is-write-requires c κs = search needs
@@ -35,11 +35,21 @@ mms-rate-requires c κs = search needs
 
 returns : tie.Need-returns
 unfolding mmsChecks
-returns c = c .ended .ensures ∙ ap (permitted _ _) (sym (c .before .before .severity .given .1) ∙ ruled (c .before .before .before .before))
+returns c = c .ended .ensures ∙ ap (permitted _ _) (answered (c .before .before .severity .given .1) (ruled (c .before .before .before .before)))
 
 returns-2 : tie.Need-returns-2
 unfolding mmsChecks
-returns-2 c = c .mms-rate .ensures ∙ ap (permitted _ _) (sym (c .before .before .rate .given .1) ∙ ruled (c .before .before .before .before))
+returns-2 c = c .mms-rate .ensures ∙ ap (permitted _ _) (answered (c .before .before .rate .given .1) (ruled (c .before .before .before .before)))
 
 pub mms-checks-spec : {M : Type 1} → statement M
-mms-checks-spec = tie.close (tie.spec is-write-requires mms-mask-requires enum-known-severity ended-requires enum-known-rate mms-rate-requires returns returns-2)
+mms-checks-spec =
+    tie.close
+    (tie.spec
+    is-write-requires
+    mms-mask-requires
+    enum-known-severity
+    ended-requires
+    enum-known-rate
+    mms-rate-requires
+    returns
+    returns-2)

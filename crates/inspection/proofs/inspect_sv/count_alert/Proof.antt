@@ -1,10 +1,10 @@
 -- `count_alert` meets its contract.
-use mathlib.Core.Path.{sym}
 use mathlib.Core.Logic.{⊎-elim}
+use mathlib.Core.Path.{sym}
+use borrow.Author.Needs.{needs}
 use borrow.Author.Tests.{lt-ltb, le-ltb}
 use Rattle.records.proofs.Booleans.{cond-yes, cond-no, and-yes, and-no}
 use Rattle.inspection.specs.InspectSv.{countFindings}
-use borrow.Author.Needs.{needs}
 use Rattle.inspection.proofs.inspect_sv.count_alert.Statement.{statement}
 use Rattle.inspection.proofs.inspect_sv.count_alert.Tie as tie
 
@@ -19,7 +19,9 @@ enum-known-outcome c = search needs
 
 returns : tie.Need-returns
 unfolding countFindings
-returns c = rw (c .before .before .before .outcome .given .1) (sym (cond-yes _ _ (and-yes (lt-ltb _ _ (c .before .if1 .taken)) (c .if2 .taken))))
+returns c =
+    rw (c .before .before .before .outcome .given .1)
+    (sym (cond-yes _ _ (and-yes (lt-ltb _ _ (c .before .if1 .taken)) (c .if2 .taken))))
 
 enum-told-3 : tie.Need-enum-told-3
 enum-told-3 c = search needs
@@ -37,7 +39,10 @@ returns-3 c = rw (c .enum-told2 .given .1)
 
 returns-4 : tie.Need-returns-4
 unfolding countFindings
-returns-4 c = rw (c .before .before .outcome .given .1) (sym (cond-no _ _ (⊎-elim (λ w. and-yes (lt-ltb _ _ (w .0 .taken)) (w .1 .left)) (λ w. and-no _ (le-ltb _ _ (w .left))) (c .if1 .came))))
+returns-4 c =
+    rw (c .before .before .outcome .given .1)
+    (sym (cond-no _ _
+    (⊎-elim (λ w. and-yes (lt-ltb _ _ (w .0 .taken)) (w .1 .left)) (λ w. and-no _ (le-ltb _ _ (w .left))) (c .if1 .came))))
 
 returns-5 : tie.Need-returns-5
 unfolding countFindings
@@ -48,4 +53,17 @@ unfolding countFindings
 returns-6 c = rw (c .enum-told4 .given .1)
 
 pub count-alert-spec : {M : Type 1} → statement M
-count-alert-spec = tie.close (tie.spec enum-told enum-told-2 enum-known-outcome returns enum-told-3 enum-told-4 returns-2 returns-3 returns-4 returns-5 returns-6)
+count-alert-spec =
+    tie.close
+    (tie.spec
+    enum-told
+    enum-told-2
+    enum-known-outcome
+    returns
+    enum-told-3
+    enum-told-4
+    returns-2
+    returns-3
+    returns-4
+    returns-5
+    returns-6)

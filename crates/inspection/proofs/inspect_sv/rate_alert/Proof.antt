@@ -1,11 +1,8 @@
 -- `rate_alert` meets its contract.
-use Rattle.inspection.proofs.StageLaws.{nonzero}
-use native.Mathlib.Omega.{arith}
-use borrow.Author.Tests.{eq-eqb, lt-ltb}
-use Rattle.inspection.specs.InspectSv.{rateFindings}
+use borrow.Author.Tests.{eq-eqb, ne-eqb}
 use Rattle.records.proofs.Booleans.{and-false}
-use borrow.Author.Tests.{ne-eqb}
-use borrow.Author.Needs.{needs}
+use Rattle.inspection.specs.InspectSv.{rateFindings}
+use Rattle.inspection.proofs.StageLaws.{nonzero}
 use Rattle.inspection.proofs.inspect_sv.rate_alert.Statement.{statement}
 use Rattle.inspection.proofs.inspect_sv.rate_alert.Tie as tie
 
@@ -26,7 +23,10 @@ returns-4 c = rw (c .before .before .before .if1 .left, eq-eqb _ _ (c .if4 .take
 
 returns-5 : tie.Need-returns-5
 unfolding rateFindings
-returns-5 c = rw (c .before .before .before .if1 .left, ne-eqb _ _ (c .if4 .left), nonzero _ (c .before .before .if2 .left), nonzero _ (c .before .if3 .left))
+returns-5 c =
+    let r = c .before in
+    let f = r .before in
+    rw (f .before .if1 .left, ne-eqb _ _ (c .if4 .left), nonzero _ (f .if2 .left), nonzero _ (r .if3 .left))
 
 pub rate-alert-spec : {M : Type 1} → statement M
 rate-alert-spec = tie.close (tie.spec returns returns-2 returns-3 returns-4 returns-5)

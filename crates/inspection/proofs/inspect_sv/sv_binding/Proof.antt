@@ -1,14 +1,11 @@
 -- `sv_binding` meets its contract.
-use mathlib.Core.Path.{_≡_, _∙_, sym, ap}
-use lib.ListN.{length}
-use Rattle.inspection.specs.declared.sv_publisher.PublisherMatch.{PublisherMatch}
-use Rattle.inspection.specs.Address.{addressOf}
-use Rattle.inspection.specs.InspectSv.{svRuleCheck, svBinding}
-use Rattle.inspection.specs.Report.{permitted}
-use Rattle.inspection.specs.SvPublisher.{svPublisher}
-use Rattle.inspection.specs.SvSeq.{svKey}
-use Rattle.inspection.proofs.StageLaws.{sv-sought}
+use mathlib.Core.Path.{_≡_, _∙_, ap}
 use borrow.Author.Needs.{needs}
+use lib.ListN.{length}
+use Rattle.records.proofs.Booleans.{answered}
+use Rattle.inspection.specs.InspectSv.{svBinding}
+use Rattle.inspection.specs.Report.{permitted}
+use Rattle.inspection.proofs.StageLaws.{svRuled, sv-ruled}
 use Rattle.inspection.proofs.inspect_sv.sv_binding.Statement.{statement}
 use Rattle.inspection.proofs.inspect_sv.sv_binding.Tie as tie
 
@@ -18,19 +15,16 @@ size s = search needs
 abbrev start : tie.After-sv-rule-check → tie.Start
 start n = n .before .before .before .before .before .before .before .before .before .before .before .before .before .before
 
--- what the publishers say, of the publishers themselves
-ruled : (n : tie.After-sv-rule-check)
-    → n .sv-rule-check .result
-    ≡ svRuleCheck (start n .args .t1 .settings .«strict_mode») (start n .args .t1 .rules .sv .count) (start n .args .t1 .rules .sv .«expected_smp_rate»)
-    (svPublisher (start n .args .t1 .rules .sv) (addressOf (start n .args .t2 .«src_mac»)) (svKey (start n .args .t2)))
+-- what the rules say, of the publishers themselves
+ruled : (n : tie.After-sv-rule-check) → n .sv-rule-check .result ≡ svRuled (start n .args .t1) (start n .args .t2)
 ruled n =
+    let s = start n in
     let g = n .before .before in
     let a = g .before .before in
     let p = a .before .before .before .before .before in
     let v = p .before .before .before in
-    n .sv-rule-check .ensures
-    ∙ ap (svRuleCheck (start n .args .t1 .settings .«strict_mode») (start n .args .t1 .rules .sv .count) (start n .args .t1 .rules .sv .«expected_smp_rate»))
-    (sv-sought _ _ (size (start n)) (v .valid-len .ensures) (p .padded .ensures) _ (a .address-of .ensures) (start n .args .t1 .rules .sv) (g .sv-publisher .ensures))
+    sv-ruled (s .args .t1) (s .args .t2) (size s) (v .valid-len .ensures) (p .padded .ensures) (a .address-of .ensures)
+    (g .sv-publisher .ensures) (n .sv-rule-check .ensures)
 
 valid-len-requires : tie.Need-valid-len-requires
 valid-len-requires c κs = search needs
@@ -61,11 +55,24 @@ sv-reservation-requires c κs = search needs
 
 returns : tie.Need-returns
 unfolding svBinding
-returns c = c .ended .ensures ∙ ap (permitted _ _) (sym (c .before .before .severity .given .1) ∙ ruled (c .before .before .before .before))
+returns c = c .ended .ensures ∙ ap (permitted _ _) (answered (c .before .before .severity .given .1) (ruled (c .before .before .before .before)))
 
 returns-2 : tie.Need-returns-2
 unfolding svBinding
-returns-2 c = c .sv-reservation .ensures ∙ ap (permitted _ _) (sym (c .before .before .rate .given .1) ∙ ruled (c .before .before .before .before))
+returns-2 c = c .sv-reservation .ensures ∙ ap (permitted _ _) (answered (c .before .before .rate .given .1) (ruled (c .before .before .before .before)))
 
 pub sv-binding-spec : {M : Type 1} → statement M
-sv-binding-spec = tie.close (tie.spec valid-len-requires padded-requires address-of-requires sv-publisher-requires sv-rule-check-requires enum-known-severity ended-requires enum-known-rate sv-reservation-requires returns returns-2)
+sv-binding-spec =
+    tie.close
+    (tie.spec
+    valid-len-requires
+    padded-requires
+    address-of-requires
+    sv-publisher-requires
+    sv-rule-check-requires
+    enum-known-severity
+    ended-requires
+    enum-known-rate
+    sv-reservation-requires
+    returns
+    returns-2)

@@ -1,11 +1,8 @@
 -- `sv_reservation` meets its contract.
-use mathlib.Core.Bool.{false}
-use mathlib.Core.Path.{_∙_, sym, ap}
-use Rattle.records.proofs.Booleans.{cond-yes, cond-no}
-use Rattle.records.specs.Name.{nameOf}
-use Rattle.inspection.specs.InspectSv.{svBound, svReservation}
-use Rattle.inspection.specs.Reservation.{cbChecked}
+use mathlib.Core.Path.{_∙_, sym}
 use borrow.Author.Needs.{needs}
+use Rattle.records.proofs.Booleans.{cond-yes, cond-no}
+use Rattle.inspection.proofs.StageLaws.{sv-used}
 use Rattle.inspection.proofs.inspect_sv.sv_reservation.Statement.{statement}
 use Rattle.inspection.proofs.inspect_sv.sv_reservation.Tie as tie
 
@@ -19,15 +16,31 @@ ended-requires : tie.Need-ended-requires
 ended-requires c κs = search needs
 
 returns : tie.Need-returns
-unfolding svReservation
-returns c = let k = c .before .before .before in let s = k .before .before .before .before .before in c .ended .ensures ∙ sym (cond-yes _ _ (c .before .if1 .taken)) ∙ ap (svBound (s .args .m) (s .args .f) (s .args .rate)) (k .cb-hijack-check .ensures ∙ ap (cbChecked (s .args .m .«cb_reservations») (nameOf (s .args .f .«dataset_ref») (s .args .f .«dataset_ref_len»)) false) (k .before .address-of .ensures))
+returns c =
+    let k = c .before .before .before in
+    let s = k .before .before .before .before .before in
+    c .ended .ensures
+    ∙ sym (cond-yes _ _ (c .before .if1 .taken))
+    ∙ sv-used (s .args .m) (s .args .f) (s .args .rate) (k .before .address-of .ensures) (k .cb-hijack-check .ensures)
 
 sv-streams-requires : tie.Need-sv-streams-requires
 sv-streams-requires c κs = search needs
 
 returns-2 : tie.Need-returns-2
-unfolding svReservation
-returns-2 c = let k = c .before .before .before in let s = k .before .before .before .before .before in c .sv-streams .ensures ∙ sym (cond-no _ _ (c .before .if1 .left)) ∙ ap (svBound (s .args .m) (s .args .f) (s .args .rate)) (k .cb-hijack-check .ensures ∙ ap (cbChecked (s .args .m .«cb_reservations») (nameOf (s .args .f .«dataset_ref») (s .args .f .«dataset_ref_len»)) false) (k .before .address-of .ensures))
+returns-2 c =
+    let k = c .before .before .before in
+    let s = k .before .before .before .before .before in
+    c .sv-streams .ensures
+    ∙ sym (cond-no _ _ (c .before .if1 .left))
+    ∙ sv-used (s .args .m) (s .args .f) (s .args .rate) (k .before .address-of .ensures) (k .cb-hijack-check .ensures)
 
 pub sv-reservation-spec : {M : Type 1} → statement M
-sv-reservation-spec = tie.close (tie.spec address-of-requires cb-hijack-check-requires ended-requires returns sv-streams-requires returns-2)
+sv-reservation-spec =
+    tie.close
+    (tie.spec
+    address-of-requires
+    cb-hijack-check-requires
+    ended-requires
+    returns
+    sv-streams-requires
+    returns-2)

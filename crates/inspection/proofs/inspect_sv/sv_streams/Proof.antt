@@ -1,6 +1,6 @@
 -- `sv_streams` meets its contract.
-use Rattle.inspection.proofs.StageLaws.{sv-streams-checked}
 use borrow.Author.Needs.{needs}
+use Rattle.inspection.proofs.StageLaws.{sv-streams-checked}
 use Rattle.inspection.proofs.inspect_sv.sv_streams.Statement.{statement}
 use Rattle.inspection.proofs.inspect_sv.sv_streams.Tie as tie
 
@@ -33,10 +33,20 @@ returns c =
     let k = r .before .before .before in
     let t = k .before .before .before in
     let s = t .before .before .before .before in
-    sv-streams-checked (s .args .m) (a .clock-alert .result) (n .count-alert .result) (c .rate-alert .result) (a .clock-alert .ensures) (s .args .f) (s .args .rate)
-    (t .before .address-of .ensures) (t .check-time-field .ensures) (k .check-sv-seq .ensures) (r .is-replay .ensures) (n .count-alert .ensures) (c .rate-alert .ensures)
+    sv-streams-checked (s .args .m) (s .args .f) (s .args .rate) (t .before .address-of .ensures)
+    (a .clock-alert .result) (n .count-alert .result) (c .rate-alert .result)
+    (t .check-time-field .ensures) (k .check-sv-seq .ensures) (r .is-replay .ensures)
+    (a .clock-alert .ensures) (n .count-alert .ensures) (c .rate-alert .ensures)
 
 pub sv-streams-spec : {M : Type 1} → statement M
 sv-streams-spec =
     tie.close
-    (tie.spec address-of-requires check-time-field-requires check-sv-seq-requires is-replay-requires clock-alert-requires count-alert-requires rate-alert-requires returns)
+    (tie.spec
+    address-of-requires
+    check-time-field-requires
+    check-sv-seq-requires
+    is-replay-requires
+    clock-alert-requires
+    count-alert-requires
+    rate-alert-requires
+    returns)

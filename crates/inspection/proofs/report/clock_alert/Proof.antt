@@ -1,5 +1,4 @@
 -- `clock_alert` meets its contract.
-use borrow.Author.Needs.{needs}
 use Rattle.inspection.proofs.report.clock_alert.Statement.{statement}
 use Rattle.inspection.proofs.report.clock_alert.Tie as tie
 

@@ -1,7 +1,6 @@
 -- `report` meets its contract.
-use Rattle.inspection.proofs.StageLaws.{three-reported}
-use Rattle.inspection.specs.Report.{reported}
 use borrow.Author.Needs.{needs}
+use Rattle.inspection.proofs.StageLaws.{three-reported}
 use Rattle.inspection.proofs.report.report.Statement.{statement}
 use Rattle.inspection.proofs.report.report.Tie as tie
 
@@ -18,7 +17,19 @@ push-alert-requires-3 : tie.Need-push-alert-requires-3
 push-alert-requires-3 c κs = search needs
 
 returns : tie.Need-returns
-returns c = let p = c .before .before in let o = p .before .before .before .before .before .before in three-reported _ _ _ (o .before .args .c) (o .clean .ensures) (p .before .before .push-alert .ensures) (p .before .push-alert2 .ensures) (p .push-alert3 .ensures)
+returns c =
+    let p3 = c .before .before in
+    let p2 = p3 .before in
+    let p1 = p2 .before in
+    let o = p1 .before .before .before .before in
+    three-reported _ _ _ (o .before .args .c) (o .clean .ensures) (p1 .push-alert .ensures) (p2 .push-alert2 .ensures) (p3 .push-alert3 .ensures)
 
 pub report-spec : {M : Type 1} → statement M
-report-spec = tie.close (tie.spec clean-requires push-alert-requires push-alert-requires-2 push-alert-requires-3 returns)
+report-spec =
+    tie.close
+    (tie.spec
+    clean-requires
+    push-alert-requires
+    push-alert-requires-2
+    push-alert-requires-3
+    returns)

@@ -1,11 +1,8 @@
 -- `inspect_goose` meets its contract.
-use Prim.Native.Nat.{ℕ}
-use mathlib.Core.Path.{ap}
-use Rattle.inspection.specs.Report.{reported}
-use mathlib.Core.Path.{_∙_}
-use Rattle.inspection.specs.InspectGoose.{gooseTest, inspectGoose}
-use Rattle.inspection.specs.Monitor.{withTotals, countedGoose}
 use borrow.Author.Needs.{needs}
+use Rattle.inspection.specs.InspectGoose.{gooseTest, inspectGoose}
+use Rattle.inspection.specs.Monitor.{mmsTotalInspected, svTotalInspected, withTotals, countedGoose}
+use Rattle.inspection.proofs.StageLaws.{counted-reported}
 use Rattle.inspection.proofs.monitor.Iec61850Monitor.inspect_goose.Statement.{statement}
 use Rattle.inspection.proofs.monitor.Iec61850Monitor.inspect_goose.Tie as tie
 
@@ -20,7 +17,19 @@ report-requires c κs = search needs
 
 returns : tie.Need-returns
 unfolding inspectGoose countedGoose
-returns c = let a = c .before .before .before .before .args in c .report .ensures ∙ ap (reported _ _ _) (c .before .goose-test .ensures ∙ ap (λ (n : ℕ). gooseTest (withTotals (a .self) (a .self .totals .«mms_total_inspected») n (a .self .totals .«sv_total_inspected») (a .self .totals .alerts)) (a .frame)) (c .before .before .before .saturating-increment .ensures))
+returns c =
+    let k = c .before in
+    let t = k .before .before in
+    let s = t .before in
+    let m = s .args .self in
+    counted-reported _ _ _ (λ n. gooseTest (withTotals m (mmsTotalInspected m) n (svTotalInspected m) (m .totals .alerts)) (s .args .frame))
+    (t .saturating-increment .ensures) (k .goose-test .ensures) (c .report .ensures)
 
 pub inspect-goose-spec : {M : Type 1} → statement M
-inspect-goose-spec = tie.close (tie.spec saturating-increment-requires goose-test-requires report-requires returns)
+inspect-goose-spec =
+    tie.close
+    (tie.spec
+    saturating-increment-requires
+    goose-test-requires
+    report-requires
+    returns)

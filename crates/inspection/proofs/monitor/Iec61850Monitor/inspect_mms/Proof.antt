@@ -1,10 +1,8 @@
 -- `inspect_mms` meets its contract.
-use Prim.Native.Nat.{ℕ}
-use mathlib.Core.Path.{_∙_, ap}
-use Rattle.inspection.specs.InspectMms.{mmsChecks, inspectMms}
-use Rattle.inspection.specs.Monitor.{withTotals, countedMms}
-use Rattle.inspection.specs.Report.{reported}
 use borrow.Author.Needs.{needs}
+use Rattle.inspection.specs.InspectMms.{mmsChecks, inspectMms}
+use Rattle.inspection.specs.Monitor.{gooseTotalInspected, svTotalInspected, withTotals, countedMms}
+use Rattle.inspection.proofs.StageLaws.{counted-reported}
 use Rattle.inspection.proofs.monitor.Iec61850Monitor.inspect_mms.Statement.{statement}
 use Rattle.inspection.proofs.monitor.Iec61850Monitor.inspect_mms.Tie as tie
 
@@ -19,7 +17,19 @@ report-requires c κs = search needs
 
 returns : tie.Need-returns
 unfolding inspectMms countedMms
-returns c = let a = c .before .before .before .before .args in c .report .ensures ∙ ap (reported _ _ _) (c .before .mms-checks .ensures ∙ ap (λ (n : ℕ). mmsChecks (withTotals (a .self) n (a .self .totals .«goose_total_inspected») (a .self .totals .«sv_total_inspected») (a .self .totals .alerts)) (a .frame)) (c .before .before .before .saturating-increment .ensures))
+returns c =
+    let k = c .before in
+    let t = k .before .before in
+    let s = t .before in
+    let m = s .args .self in
+    counted-reported _ _ _ (λ n. mmsChecks (withTotals m n (gooseTotalInspected m) (svTotalInspected m) (m .totals .alerts)) (s .args .frame))
+    (t .saturating-increment .ensures) (k .mms-checks .ensures) (c .report .ensures)
 
 pub inspect-mms-spec : {M : Type 1} → statement M
-inspect-mms-spec = tie.close (tie.spec saturating-increment-requires mms-checks-requires report-requires returns)
+inspect-mms-spec =
+    tie.close
+    (tie.spec
+    saturating-increment-requires
+    mms-checks-requires
+    report-requires
+    returns)

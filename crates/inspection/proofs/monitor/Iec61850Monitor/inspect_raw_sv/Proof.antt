@@ -1,6 +1,6 @@
 -- `inspect_raw_sv` meets its contract.
-use Rattle.inspection.proofs.StageLaws.{raw-unreadable, raw-read}
 use borrow.Author.Needs.{needs}
+use Rattle.inspection.proofs.StageLaws.{raw-unreadable, raw-read}
 use Rattle.inspection.proofs.monitor.Iec61850Monitor.inspect_raw_sv.Statement.{statement}
 use Rattle.inspection.proofs.monitor.Iec61850Monitor.inspect_raw_sv.Tie as tie
 
@@ -17,13 +17,28 @@ clean-requires : tie.Need-clean-requires
 clean-requires c κs = search needs
 
 returns : tie.Need-returns
-returns c = let p = c .before .before .before in raw-unreadable (p .before .before .args .self) _ _ (p .parse-sv .ensures) (c .before .enum-told2 .given .1) (c .clean .ensures)
+returns c =
+    let p = c .before .before .before in
+    raw-unreadable (p .before .before .args .self) _ _ (p .parse-sv .ensures) (c .before .enum-told2 .given .1) (c .clean .ensures)
 
 inspect-sv-requires : tie.Need-inspect-sv-requires
 inspect-sv-requires c κs = search needs
 
 returns-2 : tie.Need-returns-2
-returns-2 c = let x = c .before .before in let p = x .before .before .before .before in raw-read (p .before .before .args .self) _ _ (p .parse-sv .ensures) (x .before .before .enum-told .given .1) (x .inspect-sv .ensures)
+returns-2 c =
+    let x = c .before .before in
+    let e = x .before .before in
+    let p = e .before .before in
+    raw-read (p .before .before .args .self) _ _ (p .parse-sv .ensures) (e .enum-told .given .1) (x .inspect-sv .ensures)
 
 pub inspect-raw-sv-spec : {M : Type 1} → statement M
-inspect-raw-sv-spec = tie.close (tie.spec parse-sv-requires enum-told enum-told-2 clean-requires returns inspect-sv-requires returns-2)
+inspect-raw-sv-spec =
+    tie.close
+    (tie.spec
+    parse-sv-requires
+    enum-told
+    enum-told-2
+    clean-requires
+    returns
+    inspect-sv-requires
+    returns-2)

@@ -1,10 +1,8 @@
 -- `inspect_sv` meets its contract.
-use Prim.Native.Nat.{ℕ}
-use mathlib.Core.Path.{_∙_, ap}
-use Rattle.inspection.specs.InspectSv.{svBinding, inspectSv}
-use Rattle.inspection.specs.Monitor.{withTotals, countedSv}
-use Rattle.inspection.specs.Report.{reported}
 use borrow.Author.Needs.{needs}
+use Rattle.inspection.specs.InspectSv.{svBinding, inspectSv}
+use Rattle.inspection.specs.Monitor.{mmsTotalInspected, gooseTotalInspected, withTotals, countedSv}
+use Rattle.inspection.proofs.StageLaws.{counted-reported}
 use Rattle.inspection.proofs.monitor.Iec61850Monitor.inspect_sv.Statement.{statement}
 use Rattle.inspection.proofs.monitor.Iec61850Monitor.inspect_sv.Tie as tie
 
@@ -22,7 +20,20 @@ report-requires c κs = search needs
 
 returns : tie.Need-returns
 unfolding inspectSv countedSv
-returns c = let a = c .before .before .before .before .before .args in c .report .ensures ∙ ap (reported _ _ _) (c .before .before .sv-binding .ensures ∙ ap (λ (n : ℕ). svBinding (withTotals (a .self) (a .self .totals .«mms_total_inspected») (a .self .totals .«goose_total_inspected») n (a .self .totals .alerts)) (a .frame)) (c .before .before .before .before .saturating-increment .ensures))
+returns c =
+    let k = c .before .before in
+    let t = k .before .before in
+    let s = t .before in
+    let m = s .args .self in
+    counted-reported _ _ _ (λ n. svBinding (withTotals m (mmsTotalInspected m) (gooseTotalInspected m) n (m .totals .alerts)) (s .args .frame))
+    (t .saturating-increment .ensures) (k .sv-binding .ensures) (c .report .ensures)
 
 pub inspect-sv-spec : {M : Type 1} → statement M
-inspect-sv-spec = tie.close (tie.spec saturating-increment-requires sv-binding-requires cast-report report-requires returns)
+inspect-sv-spec =
+    tie.close
+    (tie.spec
+    saturating-increment-requires
+    sv-binding-requires
+    cast-report
+    report-requires
+    returns)
