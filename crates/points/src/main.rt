@@ -1,6 +1,7 @@
-// Runs the reference points of document 01 and the published FNV-1a vectors, and writes what each gives; `stdout` has what each
-// must give (docs/DECISIONS.md says where that is from).
+// Runs the reference points of document 01, the published FNV-1a vectors and a few inspections, and writes what each gives;
+// `stdout` has what each must give (docs/DECISIONS.md says where that is from).
 mod frame_points;
+mod monitor_points;
 
 use libc::STDOUT_FILENO;
 use records::bucket::RateBucket;
@@ -101,4 +102,5 @@ fn main() {
     hash_points();
     ended_hash_points();
     frame_points::write_frames();
+    monitor_points::write_inspections();
 }
