@@ -1,8 +1,11 @@
 -- The theorems over any list of calls hold, by what each call keeps and counts.
 use Prim.Native.Nat.{ℕ, _+_, _<_, _^_}
+use mathlib.Core.Bool.{Bool}
 use mathlib.Core.List.{List, [], _∷_}
 use mathlib.Core.Path.{_≡_, refl, ap, _∙_}
+use native.Mathlib.Decide.{decLt}
 use native.Mathlib.Omega.{arith}
+use lib.ListN.{length}
 use Rattle.records.specs.declared.error.VsError.{VsError}
 use Rattle.records.specs.declared.frame.SvFrame.{SvFrame}
 use Rattle.wire.specs.declared.sv.Parsed.{Parsed}
@@ -12,15 +15,19 @@ use Rattle.inspection.specs.declared.rules.Added.{Added}
 use Rattle.inspection.specs.declared.rules.Added.the-variants as added
 use Rattle.inspection.specs.declared.monitor.Iec61850Monitor.{Iec61850Monitor}
 use Rattle.inspection.specs.declared.monitor.RawInspected.{RawInspected}
-use Rattle.inspection.specs.Calls.{Call, setting, mms, goose, sv, rawSv, reset, called, afterCalls}
-use Rattle.inspection.specs.CallTheorems.{SameRules, InspectionsKeepRules, alertCount, ResultsNotTruncated, framesOf, unlessReset, countFrom, TotalsCount, nextNumber, alertNumbers, consecutive, AlertNumbersConsecutive, mmsRule, goosePublisher, svPublisher, rawFrame, RefusedChangesNothing, RefusedLeftOut, UnreadableIsClean}
+use Rattle.inspection.specs.Calls.{Setting, serviceMask, readOnly, newMmsRule, newGoosePublisher, newSvPublisher, blockTest, maxSmpCntGap, schedule, maxForwardJump, Call, setting, mms, goose, sv, rawSv, reset, settingMade, called, afterCalls}
+use Rattle.inspection.specs.CallTheorems.{SameRules, InspectionsKeepRules, AtMost16, RuleCountsHold, RefusalNumbers, alertCount, ResultsNotTruncated, framesOf, unlessReset, countFrom, TotalsCount, nextNumber, alertNumbers, consecutive, AlertNumbersConsecutive, mmsRuleError, goosePublisherError, svPublisherError, rawFrameError, RefusedChangesNothing, RefusedLeftOut, UnreadableIsClean}
 use Rattle.inspection.specs.InspectMms.{inspectMms}
 use Rattle.inspection.specs.InspectGoose.{inspectGoose}
 use Rattle.inspection.specs.InspectSv.{inspectSv, rawInspected, inspectRawSv}
-use Rattle.inspection.specs.Monitor.{mmsTotalInspected, gooseTotalInspected, svTotalInspected, totalAlerts, addMmsRule, addGoosePublisher, addSvPublisher}
-use Rattle.inspection.specs.Rules.{ifAdded}
+use Rattle.inspection.specs.Monitor.{noRules, newMonitor, resetMonitor, mmsTotalInspected, gooseTotalInspected, svTotalInspected, totalAlerts, setMmsServiceMask, setMmsReadOnly, setBlockTestFrames, setSvMaxSmpCntGap, setRetxSchedule, setTimeMaxForwardJump, addMmsRule, addGoosePublisher, addSvPublisher}
+use Rattle.inspection.specs.MmsRule.{withMmsRule}
+use Rattle.inspection.specs.GoosePublisher.{withGoosePublisher}
+use Rattle.inspection.specs.SvPublisher.{withSvPublisher}
+use Rattle.inspection.specs.Rules.{addAnswer, ifAdded, addedNumber}
 use Rattle.inspection.proofs.CallLaws.{mms-inspects, goose-inspects, sv-inspects, raw-inspects, stepped}
 use Rattle.inspection.proofs.ReportLaws.{saturating, wrapping}
+use Rattle.inspection.proofs.RuleLaws.{list-full, name-long, rule-fits}
 
 pub results-not-truncated : ResultsNotTruncated
 results-not-truncated m = (λ f. mms-inspects m f .few, λ f. goose-inspects m f .few, λ f. sv-inspects m f .few, λ octets time. raw-inspects m octets time .few)
@@ -39,6 +46,61 @@ inspections-keep-rules m (sv f ∷ calls) h = same-then (sv-inspects m f .same) 
 inspections-keep-rules m (rawSv octets time ∷ calls) h =
     same-then (raw-inspects m octets time .same) (inspections-keep-rules (inspectRawSv m octets time .monitor) calls h)
 inspections-keep-rules m (reset ∷ calls) h = absurd h
+
+-- ---- rule counts
+
+-- a list that is given one more rule only where it is not full
+counts-added :
+    (m new : Iec61850Monitor) (count len : ℕ) → AtMost16 (m .rules) → (count < 16 → AtMost16 (new .rules)) → AtMost16 (ifAdded (addAnswer count len) new m .rules)
+counts-added m new count len h add = go (decLt count 16)
+  where
+    left : (answer : Added) → AtMost16 (new .rules) → AtMost16 (ifAdded answer new m .rules)
+    left added.Rule k = k
+    left (added.Error e) k = h
+
+    go : Dec (count < 16) → AtMost16 (ifAdded (addAnswer count len) new m .rules)
+    go (yes k) = left (addAnswer count len) (add k)
+    go (no k) = rw (list-full count len (omega arith)) h
+
+counts-kept : {m m′ : Iec61850Monitor} → SameRules m m′ → AtMost16 (m .rules) → AtMost16 (m′ .rules)
+counts-kept e h = rw (e .rules) h
+
+counts-set : (m : Iec61850Monitor) (s : Setting) → AtMost16 (m .rules) → AtMost16 (settingMade m s .rules)
+unfolding setMmsServiceMask setMmsReadOnly setBlockTestFrames setSvMaxSmpCntGap setRetxSchedule setTimeMaxForwardJump addMmsRule addGoosePublisher addSvPublisher withMmsRule withGoosePublisher withSvPublisher
+counts-set m (serviceMask mask) h = h
+counts-set m (readOnly on) h = h
+counts-set m (newMmsRule mask on rate) h =
+    counts-added m _ (m .rules .mms .count) 0 h (λ k. record { mms = omega arith; goose = h .goose; sv = h .sv })
+counts-set m (newGoosePublisher mac name) h =
+    counts-added m _ (m .rules .goose .count) (length name) h (λ k. record { mms = h .mms; goose = omega arith; sv = h .sv })
+counts-set m (newSvPublisher mac svid rate) h =
+    counts-added m _ (m .rules .sv .count) (length svid) h (λ k. record { mms = h .mms; goose = h .goose; sv = omega arith })
+counts-set m (blockTest block) h = h
+counts-set m (maxSmpCntGap gap) h = h
+counts-set m (schedule s enforce) h = h
+counts-set m (maxForwardJump seconds) h = h
+
+no-rules : (m : Iec61850Monitor) → m .rules ≡ noRules → AtMost16 (m .rules)
+no-rules m e = rw e (record { mms = omega arith; goose = omega arith; sv = omega arith })
+
+counts-called : (m : Iec61850Monitor) (c : Call) → AtMost16 (m .rules) → AtMost16 (called m c .rules)
+counts-called m (setting s) h = counts-set m s h
+counts-called m (mms f) h = counts-kept (mms-inspects m f .same) h
+counts-called m (goose f) h = counts-kept (goose-inspects m f .same) h
+counts-called m (sv f) h = counts-kept (sv-inspects m f .same) h
+counts-called m (rawSv octets time) h = counts-kept (raw-inspects m octets time .same) h
+counts-called m reset h = no-rules (resetMonitor m) refl
+
+counts-after : (m : Iec61850Monitor) (calls : List Call) → AtMost16 (m .rules) → AtMost16 (afterCalls m calls .rules)
+counts-after m [] h = h
+counts-after m (c ∷ calls) h = counts-after (called m c) calls (counts-called m c h)
+
+pub rule-counts-hold : RuleCountsHold
+rule-counts-hold strict calls = counts-after (newMonitor strict) calls (no-rules (newMonitor strict) refl)
+
+pub refusal-numbers : RefusalNumbers
+refusal-numbers count len =
+    (λ h. ap addedNumber (list-full count len h), λ h l. ap addedNumber (name-long count len h l), λ h l. ap addedNumber (rule-fits count len h l))
 
 -- ---- totals and alert numbers
 
@@ -93,10 +155,10 @@ module _ (m : Iec61850Monitor) (octets : List ℕ) (time : ℕ) (e : VsError) (h
 
 pub refused-changes-nothing : RefusedChangesNothing
 unfolding addMmsRule addGoosePublisher addSvPublisher
-refused-changes-nothing m c (mmsRule mask on rate e h) = not-added _ _ m e h
-refused-changes-nothing m c (goosePublisher mac name e h) = not-added _ _ m e h
-refused-changes-nothing m c (svPublisher mac svid rate e h) = not-added _ _ m e h
-refused-changes-nothing m c (rawFrame octets time e h) = ap (λ (r : RawInspected). r .monitor) (unreadable m octets time e h)
+refused-changes-nothing m c (mmsRuleError mask on rate e h) = not-added _ _ m e h
+refused-changes-nothing m c (goosePublisherError mac name e h) = not-added _ _ m e h
+refused-changes-nothing m c (svPublisherError mac svid rate e h) = not-added _ _ m e h
+refused-changes-nothing m c (rawFrameError octets time e h) = ap (λ (r : RawInspected). r .monitor) (unreadable m octets time e h)
 
 pub refused-left-out : RefusedLeftOut
 refused-left-out m [] c further h = ap (λ (left : Iec61850Monitor). afterCalls left further) (refused-changes-nothing m c h)

@@ -227,7 +227,7 @@ module _ (m : Iec61850Monitor) (f : GooseFrame) where
   abbrev streamChecked : ℕ → ℕ → GooseChecked
   streamChecked address hash = gooseChecked (m .«goose_seq») (address, hash) (gooseTimed f)
 
-  pub goose-streams-checked :
+  pub goose-time-field-checked :
       (first second : CheckAlert) {clock : TimeChecked} {address hash : ℕ} {outside : Bool} {stream : GooseChecked}
       → address ≡ addressOf (f .«src_mac»)
       → hash ≡ fnv1a (controlBlock f)
@@ -239,7 +239,7 @@ module _ (m : Iec61850Monitor) (f : GooseFrame) where
       → checkedOf (record { monitor = withGooseStreams (withClocks m (clock .table)) (stream .table); first = first; second = second; third = Nothing })
       ≡ gooseTimeField m f
   unfolding gooseTimeField
-  goose-streams-checked first second {clock} {address} {hash} {outside} {stream} e h t o s a b =
+  goose-time-field-checked first second {clock} {address} {hash} {outside} {stream} e h t o s a b =
       let outside-by-key = o ∙ (λ i. scheduleChecked (e i) (h i)) in
       let stream-by-key = s ∙ (λ i. streamChecked (e i) (h i)) in
       (λ i. ended (withGooseStreams (withClocks m (clock .table)) (stream .table)) (a i ++ (append-nil (findingsOf second) ∙ b) i))
@@ -301,7 +301,7 @@ module _ (m : Iec61850Monitor) (f : SvFrame) where
     unfolding svReservation
     sv-used u = ap (svBound m f rate) (u ∙ ap (cbChecked (m .«cb_reservations») (nameOf (f .«dataset_ref») (f .«dataset_ref_len»)) false) e)
 
-    pub sv-streams-checked :
+    pub sv-time-field-checked :
         (first second third : CheckAlert) {clock : TimeChecked} {count : SvChecked} {replay : Bool}
         → clock ≡ timeChecked (m .«time_trackers») (m .settings .«time_max_forward_jump_s») address (svPair f)
         → count ≡ svChecked (m .«sv_seq») (svKey f) (f .«smp_cnt»)
@@ -312,7 +312,7 @@ module _ (m : Iec61850Monitor) (f : SvFrame) where
         → checkedOf (record { monitor = withSvStreams (withClocks m (clock .table)) (count .table); first = first; second = second; third = third })
         ≡ svTimeField m f rate
     unfolding svTimeField
-    sv-streams-checked first second third {clock} {count} {replay} t s r a b d =
+    sv-time-field-checked first second third {clock} {count} {replay} t s r a b d =
         let rates = rateFindings (f .«smp_rate») rate in
         let compared = d ∙ ap (λ (x : Bool). cond x [] rates) r in
         let counted = (λ i. b i ++ compared i) ∙ count-then-rate (m .settings .«sv_max_smp_cnt_gap») rates (count .outcome) in

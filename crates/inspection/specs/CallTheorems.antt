@@ -2,6 +2,7 @@
 use Prim.Native.Nat.{ℕ, zero, suc, _+_, _-_, _<_, _≤_, _%_, _^_, min}
 use mathlib.Core.Bool.{Bool, false}
 use mathlib.Core.List.{List, [], _∷_, _++_, map}
+use mathlib.Core.Option.{none, some}
 use mathlib.Core.Path.{_≡_}
 use lib.ListN.{length, take}
 use Rattle.records.specs.declared.alert.CodedAlert.{CodedAlert}
@@ -17,11 +18,13 @@ use Rattle.wire.specs.declared.sv.Parsed.the-variants as parsed
 use Rattle.wire.specs.Sv.{svFrame}
 use Rattle.inspection.specs.declared.rules.Added.the-variants as added
 use Rattle.inspection.specs.declared.monitor.Iec61850Monitor.{Iec61850Monitor}
+use Rattle.inspection.specs.declared.monitor.Rules.{Rules}
 use Rattle.inspection.specs.Calls.{Call, setting, mms, goose, sv, rawSv, reset, newMmsRule, newGoosePublisher, newSvPublisher, called, afterCalls}
 use Rattle.inspection.specs.InspectMms.{inspectMms}
 use Rattle.inspection.specs.InspectGoose.{inspectGoose}
 use Rattle.inspection.specs.InspectSv.{inspectSv, inspectRawSv}
-use Rattle.inspection.specs.Monitor.{addMmsRule, addGoosePublisher, addSvPublisher, mmsTotalInspected, gooseTotalInspected, svTotalInspected, totalAlerts}
+use Rattle.inspection.specs.Monitor.{newMonitor, addMmsRule, addGoosePublisher, addSvPublisher, mmsTotalInspected, gooseTotalInspected, svTotalInspected, totalAlerts}
+use Rattle.inspection.specs.Rules.{addAnswer, addedNumber}
 
 -- ---- settings and rules
 
@@ -43,6 +46,24 @@ pub record SameRules (m m′ : Iec61850Monitor) : Type 0 where
 -- "Rules (made by the add and set calls, read by the inspections)": inspections change none of them
 abbrev pub InspectionsKeepRules : Type 0
 InspectionsKeepRules = (m : Iec61850Monitor) (calls : List Call) → Inspections calls → SameRules m (afterCalls m calls)
+
+-- at most 16 rules of each kind
+pub record AtMost16 (r : Rules) : Type 0 where
+  pub mms : r .mms .count ≤ 16
+  pub goose : r .goose .count ≤ 16
+  pub sv : r .sv .count ≤ 16
+
+-- "At most 16 MMS rules, 16 GOOSE and 16 SV publishers": no calls lead to more
+abbrev pub RuleCountsHold : Type 0
+RuleCountsHold = (strict : Bool) (calls : List Call) → AtMost16 (afterCalls (newMonitor strict) calls .rules)
+
+-- refusals 1 and 2 by their numbers: 6 on 16 rules, then 9 for a name over 64 octets, else added
+abbrev pub RefusalNumbers : Type 0
+RefusalNumbers =
+    (count nameLength : ℕ)
+    → (16 ≤ count → addedNumber (addAnswer count nameLength) ≡ some 6)
+    × (count < 16 → 64 < nameLength → addedNumber (addAnswer count nameLength) ≡ some 9)
+    × (count < 16 → nameLength ≤ 64 → addedNumber (addAnswer count nameLength) ≡ none)
 
 -- ---- alerts of a call
 
@@ -158,24 +179,24 @@ AlertNumbersConsecutive =
 -- ---- refused calls
 
 -- a call that is answered by an error
-pub data Refused (m : Iec61850Monitor) : Call → Type 0 where
-  mmsRule : (mask : ℕ) (on : Bool) (rate : ℕ) (e : VsError) → addMmsRule m mask on rate .answer ≡ added.Error e
-      → Refused m (setting (newMmsRule mask on rate))
-  goosePublisher : (mac name : List ℕ) (e : VsError) → addGoosePublisher m mac name .answer ≡ added.Error e
-      → Refused m (setting (newGoosePublisher mac name))
-  svPublisher : (mac svid : List ℕ) (rate : ℕ) (e : VsError) → addSvPublisher m mac svid rate .answer ≡ added.Error e
-      → Refused m (setting (newSvPublisher mac svid rate))
-  rawFrame : (octets : List ℕ) (time : ℕ) (e : VsError) → inspectRawSv m octets time .answer ≡ parsed.Error e
-      → Refused m (rawSv octets time)
+pub data AnsweredByError (m : Iec61850Monitor) : Call → Type 0 where
+  mmsRuleError : (mask : ℕ) (on : Bool) (rate : ℕ) (e : VsError) → addMmsRule m mask on rate .answer ≡ added.Error e
+      → AnsweredByError m (setting (newMmsRule mask on rate))
+  goosePublisherError : (mac name : List ℕ) (e : VsError) → addGoosePublisher m mac name .answer ≡ added.Error e
+      → AnsweredByError m (setting (newGoosePublisher mac name))
+  svPublisherError : (mac svid : List ℕ) (rate : ℕ) (e : VsError) → addSvPublisher m mac svid rate .answer ≡ added.Error e
+      → AnsweredByError m (setting (newSvPublisher mac svid rate))
+  rawFrameError : (octets : List ℕ) (time : ℕ) (e : VsError) → inspectRawSv m octets time .answer ≡ parsed.Error e
+      → AnsweredByError m (rawSv octets time)
 
 -- refusals 1 to 3: "changes nothing", "no frame"
 abbrev pub RefusedChangesNothing : Type 0
-RefusedChangesNothing = (m : Iec61850Monitor) (c : Call) → Refused m c → called m c ≡ m
+RefusedChangesNothing = (m : Iec61850Monitor) (c : Call) → AnsweredByError m c → called m c ≡ m
 
 -- so a refused call may be left out, wherever it stands
 abbrev pub RefusedLeftOut : Type 0
 RefusedLeftOut =
-    (m : Iec61850Monitor) (before : List Call) (c : Call) (further : List Call) → Refused (afterCalls m before) c
+    (m : Iec61850Monitor) (before : List Call) (c : Call) (further : List Call) → AnsweredByError (afterCalls m before) c
     → afterCalls m (before ++ c ∷ further) ≡ afterCalls m (before ++ further)
 
 -- refusal 3: a clean result stands beside the error

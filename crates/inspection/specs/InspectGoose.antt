@@ -31,7 +31,7 @@ abbrev pub streamFindings : Bool → Bool → List Finding
 streamFindings replay outside =
     cond replay (refusal High ReplayDetected ∷ []) (cond outside (notice Medium RetransmissionAnomaly ∷ []) [])
 
--- the stream's alerts come behind those before
+-- the stream's alerts follow the clock's
 abbrev pub gooseStream : Iec61850Monitor → List Finding → Bool → GooseChecked → Checked
 gooseStream m before outside c = ended (withGooseStreams m (c .table)) (before ++ streamFindings (c .replay) outside)
 

@@ -42,16 +42,16 @@ unfoldable pub rateFindings : ℕ → ℕ → List Finding
 rateFindings frameRate rate =
     cond (ltb 0 frameRate && ltb 0 rate && not (eqb frameRate rate)) (refusal Medium SvRateAnomaly ∷ []) []
 
--- 18. replay: High 26, and the rate is not compared. 19. gap above a nonzero limit: Medium 27, checking goes on; a suspicious count's Medium 27
--- does not refuse
+-- 18. replay: High 26, and checking ends. 19. gap above a nonzero limit: Medium 27, checking goes on; a suspicious count's Medium 27 does not
+-- refuse. `further` is what the checks after the count find
 unfoldable pub countFindings : ℕ → List Finding → SvSeqOutcome → List Finding
-countFindings limit rates FirstSeen = rates
-countFindings limit rates Replay = refusal High SvReplay ∷ []
-countFindings limit rates (ForwardGap gap) = cond (ltb 0 limit && ltb limit gap) (refusal Medium SvRateAnomaly ∷ rates) rates
-countFindings limit rates CycleWrap = rates
-countFindings limit rates (SuspiciousSmpGap gap) = notice Medium SvRateAnomaly ∷ rates
+countFindings limit further FirstSeen = further
+countFindings limit further Replay = refusal High SvReplay ∷ []
+countFindings limit further (ForwardGap gap) = cond (ltb 0 limit && ltb limit gap) (refusal Medium SvRateAnomaly ∷ further) further
+countFindings limit further CycleWrap = further
+countFindings limit further (SuspiciousSmpGap gap) = notice Medium SvRateAnomaly ∷ further
 
--- the count's alerts come behind those before
+-- the count's alerts follow the clock's
 abbrev pub svCount : Iec61850Monitor → SvFrame → ℕ → List Finding → SvChecked → Checked
 svCount m f rate before c =
     ended (withSvStreams m (c .table))

@@ -1,8 +1,10 @@
 -- Rule lists (01, "Rules": at most 16 of each kind; "Refusals in checking order", 1 and 2).
 use Prim.Native.Nat.{ℕ, min}
 use mathlib.Core.Bool.{cond}
+use mathlib.Core.Option.{Option, none, some}
 use lib.Dec.{ltb, leb}
 use Rattle.records.specs.declared.error.VsError.the-variants.{ResourceExhausted, InvalidInput}
+use Rattle.records.specs.Error.{errorNumber}
 use Rattle.inspection.specs.declared.rules.Added.{Added}
 use Rattle.inspection.specs.declared.rules.Added.the-variants.{Rule, Error}
 
@@ -10,7 +12,7 @@ use Rattle.inspection.specs.declared.rules.Added.the-variants.{Rule, Err
 abbrev pub ruleCount : ℕ → ℕ
 ruleCount count = min count 16
 
--- 1. on 16 rules ResourceExhausted; 2. a name over 64 octets InvalidInput
+-- 1. on 16 rules ResourceExhausted (6); 2. a name over 64 octets InvalidInput (9)
 unfoldable pub addAnswer : ℕ → ℕ → Added
 addAnswer count nameLength = cond (ltb count 16) (cond (leb nameLength 64) Rule (Error InvalidInput)) (Error ResourceExhausted)
 
@@ -18,3 +20,8 @@ addAnswer count nameLength = cond (ltb count 16) (cond (leb nameLength 64) Rule 
 abbrev pub ifAdded : {A : Type 0} → Added → A → A → A
 ifAdded Rule new old = new
 ifAdded (Error e) new old = old
+
+-- the number of an add call's error, none where the rule was added
+abbrev pub addedNumber : Added → Option ℕ
+addedNumber Rule = none
+addedNumber (Error e) = some (errorNumber e)

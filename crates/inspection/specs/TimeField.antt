@@ -35,7 +35,7 @@ hasClock pair = not (eqb (pair .0) 0 && eqb (pair .1) 0)
 unfoldable pub earlier : ℕ × ℕ → ℕ × ℕ → Bool
 earlier pair kept = ltb (pair .0) (kept .0) || (eqb (pair .0) (kept .0) && ltb (pair .1) (kept .1))
 
--- or further ahead in seconds than a nonzero limit, alerts
+-- a pair alerts that is earlier than the kept one, or further ahead in seconds than a nonzero limit
 abbrev pub clockAlert : ℕ → Option (ℕ × ℕ) → ℕ × ℕ → Bool
 clockAlert limit none pair = false
 clockAlert limit (some kept) pair = earlier pair kept || (ltb 0 limit && ltb limit (pair .0 - kept .0))

@@ -78,7 +78,7 @@ fn goose_retx(t: GooseSeqTable, settings: Settings, src_mac: u64, hash: u32, f: 
 }
 
 // The clock, the retransmission and the stream: none of them ends the checking for the one before.
-fn goose_streams(m: Iec61850Monitor, f: GooseFrame) -> AfterChecks
+fn goose_time_field(m: Iec61850Monitor, f: GooseFrame) -> AfterChecks
     ensures { λ r. ⌜ checkedOf r ≡ gooseTimeField m f ⌝ }
 {
     let mut out = m;
@@ -124,7 +124,7 @@ fn goose_reservation(m: Iec61850Monitor, f: GooseFrame) -> AfterChecks
     if used.hijack {
         return ended(out, AlertSeverity::High, AlertCode::CbHijack);
     }
-    goose_streams(out, f)
+    goose_time_field(out, f)
 }
 
 // Whether publishers exist and none was found.

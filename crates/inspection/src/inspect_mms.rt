@@ -41,7 +41,7 @@ fn masked(mask: u16, raw: u8) -> bool
 }
 
 // What the rule at a place says of a frame, or the lack of one.
-fn mms_rule(found: Found, rules: MmsRules, strict: bool, write: bool) -> RuleCheck
+fn mms_rule_check(found: Found, rules: MmsRules, strict: bool, write: bool) -> RuleCheck
     ensures { λ r. ⌜ r ≡ mmsRule strict rules write found ⌝ }
 {
     match found {
@@ -74,7 +74,7 @@ fn mms_mask(settings: Settings, rules: MmsRules, raw: u8, write: bool) -> RuleCh
         return RuleCheck::Refused(AlertSeverity::High, AlertCode::WriteProtection);
     }
     let found = first_rule(&rules.service_mask, rules.count, raw);
-    mms_rule(found, rules, settings.strict_mode, write)
+    mms_rule_check(found, rules, settings.strict_mode, write)
 }
 
 // A full reservation table gives an alert that does not refuse.

@@ -95,7 +95,7 @@ fn rate_alert(replay: bool, frame_rate: u16, rate: u16) -> CheckAlert
 }
 
 // The clock, the count and the rate: none of them ends the checking for the one before.
-fn sv_streams(m: Iec61850Monitor, f: SvFrame, rate: u16) -> AfterChecks
+fn sv_time_field(m: Iec61850Monitor, f: SvFrame, rate: u16) -> AfterChecks
     ensures { λ r. ⌜ checkedOf r ≡ svTimeField m f rate ⌝ }
 {
     let mut out = m;
@@ -145,7 +145,7 @@ fn sv_reservation(m: Iec61850Monitor, f: SvFrame, rate: u16) -> AfterChecks
     if used.hijack {
         return ended(out, AlertSeverity::High, AlertCode::CbHijack);
     }
-    sv_streams(out, f, rate)
+    sv_time_field(out, f, rate)
 }
 
 // The publishers, which may end the checking; then the reservation and what follows it.

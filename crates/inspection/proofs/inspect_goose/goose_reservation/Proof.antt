@@ -23,14 +23,14 @@ returns c =
     ∙ sym (cond-yes _ _ (c .before .if1 .taken))
     ∙ goose-used (s .args .m) (s .args .f) (k .before .address-of .ensures) (k .cb-hijack-check .ensures)
 
-goose-streams-requires : tie.Need-goose-streams-requires
-goose-streams-requires c κs = search needs
+goose-time-field-requires : tie.Need-goose-time-field-requires
+goose-time-field-requires c κs = search needs
 
 returns-2 : tie.Need-returns-2
 returns-2 c =
     let k = c .before .before .before in
     let s = k .before .before .before .before .before in
-    c .goose-streams .ensures
+    c .goose-time-field .ensures
     ∙ sym (cond-no _ _ (c .before .if1 .left))
     ∙ goose-used (s .args .m) (s .args .f) (k .before .address-of .ensures) (k .cb-hijack-check .ensures)
 
@@ -42,5 +42,5 @@ goose-reservation-spec =
     cb-hijack-check-requires
     ended-requires
     returns
-    goose-streams-requires
+    goose-time-field-requires
     returns-2)

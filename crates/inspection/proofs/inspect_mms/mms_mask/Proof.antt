@@ -24,8 +24,8 @@ returns-2 c =
 first-rule-requires : tie.Need-first-rule-requires
 first-rule-requires c κs = search needs
 
-mms-rule-requires : tie.Need-mms-rule-requires
-mms-rule-requires c κs = search needs
+mms-rule-check-requires : tie.Need-mms-rule-check-requires
+mms-rule-check-requires c κs = search needs
 
 returns-3 : tie.Need-returns-3
 unfolding mmsMask firstRule
@@ -33,7 +33,7 @@ returns-3 c =
     let j = c .before .before .before .before in
     let k = j .before in
     let s = k .before .before in
-    c .mms-rule .ensures
+    c .mms-rule-check .ensures
     ∙ ap (mmsRule (s .args .settings .«strict_mode») (s .args .t2) (s .args .write)) (c .before .first-rule .ensures)
     ∙ sym (cond-no _ _ (answered (k .before .masked .ensures) (k .if1 .left))
     ∙ cond-no _ _ (⊎-elim (λ w. and-yes (w .0 .taken) (w .1 .left)) (λ w. and-no _ (w .left)) (j .if2 .came)))
@@ -46,5 +46,5 @@ mms-mask-spec =
     returns
     returns-2
     first-rule-requires
-    mms-rule-requires
+    mms-rule-check-requires
     returns-3)

@@ -23,14 +23,14 @@ returns c =
     ∙ sym (cond-yes _ _ (c .before .if1 .taken))
     ∙ sv-used (s .args .m) (s .args .f) (s .args .rate) (k .before .address-of .ensures) (k .cb-hijack-check .ensures)
 
-sv-streams-requires : tie.Need-sv-streams-requires
-sv-streams-requires c κs = search needs
+sv-time-field-requires : tie.Need-sv-time-field-requires
+sv-time-field-requires c κs = search needs
 
 returns-2 : tie.Need-returns-2
 returns-2 c =
     let k = c .before .before .before in
     let s = k .before .before .before .before .before in
-    c .sv-streams .ensures
+    c .sv-time-field .ensures
     ∙ sym (cond-no _ _ (c .before .if1 .left))
     ∙ sv-used (s .args .m) (s .args .f) (s .args .rate) (k .before .address-of .ensures) (k .cb-hijack-check .ensures)
 
@@ -42,5 +42,5 @@ sv-reservation-spec =
     cb-hijack-check-requires
     ended-requires
     returns
-    sv-streams-requires
+    sv-time-field-requires
     returns-2)

@@ -1,8 +1,8 @@
--- `goose_streams` meets its contract.
+-- `goose_time_field` meets its contract.
 use borrow.Author.Needs.{needs}
-use Rattle.inspection.proofs.StageLaws.{goose-streams-checked}
-use Rattle.inspection.proofs.inspect_goose.goose_streams.Statement.{statement}
-use Rattle.inspection.proofs.inspect_goose.goose_streams.Tie as tie
+use Rattle.inspection.proofs.StageLaws.{goose-time-field-checked}
+use Rattle.inspection.proofs.inspect_goose.goose_time_field.Statement.{statement}
+use Rattle.inspection.proofs.inspect_goose.goose_time_field.Tie as tie
 
 address-of-requires : tie.Need-address-of-requires
 address-of-requires c κs = search needs
@@ -33,12 +33,12 @@ returns c =
     let n = x .before .before .before in
     let t = n .before .before in
     let s = t .before .before .before .before in
-    goose-streams-checked (s .args .m) (s .args .f) (a .clock-alert .result) (c .stream-alert .result)
+    goose-time-field-checked (s .args .m) (s .args .f) (a .clock-alert .result) (c .stream-alert .result)
     (t .before .before .address-of .ensures) (n .name-hash .ensures) (t .check-time-field .ensures) (x .goose-retx .ensures)
     (k .check-goose-seq .ensures) (a .clock-alert .ensures) (c .stream-alert .ensures)
 
-pub goose-streams-spec : {M : Type 1} → statement M
-goose-streams-spec =
+pub goose-time-field-spec : {M : Type 1} → statement M
+goose-time-field-spec =
     tie.close
     (tie.spec
     address-of-requires

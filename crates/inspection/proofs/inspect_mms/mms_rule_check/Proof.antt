@@ -1,11 +1,11 @@
--- `mms_rule` meets its contract.
+-- `mms_rule_check` meets its contract.
 use mathlib.Core.Logic.{⊎-elim}
 use mathlib.Core.Path.{sym}
 use borrow.Author.Needs.{needs}
 use Rattle.records.proofs.Booleans.{cond-yes, cond-no, and-yes, and-no}
 use Rattle.inspection.proofs.StageLaws.{rule-past}
-use Rattle.inspection.proofs.inspect_mms.mms_rule.Statement.{statement}
-use Rattle.inspection.proofs.inspect_mms.mms_rule.Tie as tie
+use Rattle.inspection.proofs.inspect_mms.mms_rule_check.Statement.{statement}
+use Rattle.inspection.proofs.inspect_mms.mms_rule_check.Tie as tie
 
 enum-known-found : tie.Need-enum-known-found
 enum-known-found c = search needs
@@ -44,8 +44,8 @@ returns-5 c =
     rw (c .before .enum-told .given .1)
     (sym (cond-no _ _ (⊎-elim (λ w. and-yes (w .0 .taken) (w .1 .left)) (λ w. and-no _ (w .left)) (c .if4 .came))))
 
-pub mms-rule-spec : {M : Type 1} → statement M
-mms-rule-spec =
+pub mms-rule-check-spec : {M : Type 1} → statement M
+mms-rule-check-spec =
     tie.close
     (tie.spec
     enum-known-found

@@ -1,8 +1,8 @@
--- `sv_streams` meets its contract.
+-- `sv_time_field` meets its contract.
 use borrow.Author.Needs.{needs}
-use Rattle.inspection.proofs.StageLaws.{sv-streams-checked}
-use Rattle.inspection.proofs.inspect_sv.sv_streams.Statement.{statement}
-use Rattle.inspection.proofs.inspect_sv.sv_streams.Tie as tie
+use Rattle.inspection.proofs.StageLaws.{sv-time-field-checked}
+use Rattle.inspection.proofs.inspect_sv.sv_time_field.Statement.{statement}
+use Rattle.inspection.proofs.inspect_sv.sv_time_field.Tie as tie
 
 address-of-requires : tie.Need-address-of-requires
 address-of-requires c κs = search needs
@@ -33,13 +33,13 @@ returns c =
     let k = r .before .before .before in
     let t = k .before .before .before in
     let s = t .before .before .before .before in
-    sv-streams-checked (s .args .m) (s .args .f) (s .args .rate) (t .before .address-of .ensures)
+    sv-time-field-checked (s .args .m) (s .args .f) (s .args .rate) (t .before .address-of .ensures)
     (a .clock-alert .result) (n .count-alert .result) (c .rate-alert .result)
     (t .check-time-field .ensures) (k .check-sv-seq .ensures) (r .is-replay .ensures)
     (a .clock-alert .ensures) (n .count-alert .ensures) (c .rate-alert .ensures)
 
-pub sv-streams-spec : {M : Type 1} → statement M
-sv-streams-spec =
+pub sv-time-field-spec : {M : Type 1} → statement M
+sv-time-field-spec =
     tie.close
     (tie.spec
     address-of-requires
