@@ -1,13 +1,11 @@
--- Calls of every entry, what a list of them leaves, and the monitors that calls reach.
-use Prim.Native.Nat.{ℕ, _<_, _^_}
+-- Calls of every entry, and what a list of them leaves.
+use Prim.Native.Nat.{ℕ}
 use mathlib.Core.Bool.{Bool}
 use mathlib.Core.List.{List, [], _∷_, foldl}
-use mathlib.Core.Path.{_≡_}
 use Rattle.records.specs.declared.frame.MmsFrame.{MmsFrame}
 use Rattle.records.specs.declared.frame.GooseFrame.{GooseFrame}
 use Rattle.records.specs.declared.frame.SvFrame.{SvFrame}
 use Rattle.records.specs.declared.schedule.RetxSchedule.{RetxSchedule}
-use Rattle.records.specs.Legal.{Octets, OctetArray, LegalMms, LegalGoose, LegalSv}
 use Rattle.inspection.specs.declared.monitor.Iec61850Monitor.{Iec61850Monitor}
 use Rattle.inspection.specs.InspectMms.{inspectMms}
 use Rattle.inspection.specs.InspectGoose.{inspectGoose}
@@ -63,37 +61,3 @@ called m reset = resetMonitor m
 -- and after a list of them
 abbrev pub afterCalls : Iec61850Monitor → List Call → Iec61850Monitor
 afterCalls m calls = foldl called m calls
-
--- ---- calls within their types
-
--- numbers within their width, addresses of six octets, names of any octets
-abbrev pub LegalSetting : Setting → Type 0
-LegalSetting (serviceMask mask) = mask < 2 ^ 16
-LegalSetting (readOnly on) = Unit {0}
-LegalSetting (newMmsRule mask on rate) = (mask < 2 ^ 16) × (rate < 2 ^ 16)
-LegalSetting (newGoosePublisher mac name) = OctetArray 6 mac × Octets name
-LegalSetting (newSvPublisher mac svid rate) = OctetArray 6 mac × Octets svid × (rate < 2 ^ 16)
-LegalSetting (blockTest block) = Unit {0}
-LegalSetting (maxSmpCntGap gap) = gap < 2 ^ 16
-LegalSetting (schedule s enforce) = (s .«initial_us» < 2 ^ 32) × (s .«t_max_us» < 2 ^ 32) × (s .«tolerance_pct» < 256)
-LegalSetting (maxForwardJump seconds) = seconds < 2 ^ 32
-
--- frames and octets within their types
-abbrev pub LegalCall : Call → Type 0
-LegalCall (setting s) = LegalSetting s
-LegalCall (mms f) = LegalMms f
-LegalCall (goose f) = LegalGoose f
-LegalCall (sv f) = LegalSv f
-LegalCall (rawSv octets time) = Octets octets × (time < 2 ^ 64)
-LegalCall reset = Unit {0}
-
-abbrev pub LegalCalls : List Call → Type 0
-LegalCalls [] = Unit {0}
-LegalCalls (c ∷ calls) = LegalCall c × LegalCalls calls
-
--- a monitor that calls lead to from a new one
-pub record Reachable (m : Iec61850Monitor) : Type 0 where
-  pub strict : Bool
-  pub calls : List Call
-  pub legal : LegalCalls calls
-  pub made : m ≡ afterCalls (newMonitor strict) calls

@@ -77,7 +77,7 @@ fn goose_retx(t: GooseSeqTable, settings: Settings, src_mac: u64, hash: u32, f: 
     )
 }
 
-// The clock, the retransmission and the stream: none of them ends the checking for the one before.
+// The clock, the retransmission and the stream. A clock alert does not end the checking; a replay leaves out the retransmission's alert.
 fn goose_time_field(m: Iec61850Monitor, f: GooseFrame) -> AfterChecks
     ensures { λ r. ⌜ checkedOf r ≡ gooseTimeField m f ⌝ }
 {

@@ -112,7 +112,7 @@ fn mms_reserve(m: Iec61850Monitor, f: MmsFrame) -> AfterChecks
     }
 }
 
-// CancelControl and Conclude release it.
+// CancelControl and Conclude release the client's reservation of the name, with an empty name all of the client's.
 fn mms_release(m: Iec61850Monitor, f: MmsFrame) -> AfterChecks
     ensures { λ r. ⌜ checkedOf r ≡ ended (withReservations m (released (m .«cb_reservations») (domainName f) (f .«control_block_is_goose») (f .«client_id»))) [] ⌝ }
 {

@@ -1,5 +1,5 @@
 // The inspection of a sampled-values frame, carried over from industrial/iec61850-monitor/src/lib.rs of craton-shield
-// a31d888527 (Apache-2.0) and changed: the checks in two stages, the alerts added at the end.
+// a31d888527 (Apache-2.0) and changed: the checks in stages, the alerts added at the end.
 ghost use mathlib.Core.Path.{_≡_};
 ghost use mathlib.Core.Bool.{cond};
 ghost use mathlib.Core.List.{[]};
@@ -94,7 +94,7 @@ fn rate_alert(replay: bool, frame_rate: u16, rate: u16) -> CheckAlert
     CheckAlert::Refusal(AlertSeverity::Medium, AlertCode::SvRateAnomaly)
 }
 
-// The clock, the count and the rate: none of them ends the checking for the one before.
+// The clock, the count and the rate. A clock alert does not end the checking; after a replay the rate is not compared.
 fn sv_time_field(m: Iec61850Monitor, f: SvFrame, rate: u16) -> AfterChecks
     ensures { λ r. ⌜ checkedOf r ≡ svTimeField m f rate ⌝ }
 {
@@ -125,7 +125,7 @@ fn sv_time_field(m: Iec61850Monitor, f: SvFrame, rate: u16) -> AfterChecks
     }
 }
 
-// The reservation of the data set, which ends the checking; then clock, count and rate.
+// The reservation of the data set, which may end the checking; then clock, count and rate.
 fn sv_reservation(m: Iec61850Monitor, f: SvFrame, rate: u16) -> AfterChecks
     ensures { λ r. ⌜ checkedOf r ≡ svReservation m f rate ⌝ }
 {

@@ -112,7 +112,7 @@ impl Iec61850Monitor {
         fresh(false)
     }
 
-    // Strict: a request that no rule applies to, and an svID not among the publishers, are refused.
+    // Strict: where MMS rules exist, a request that none applies to is refused; where SV publishers exist, an svID not among them.
     pub fn new_strict() -> Self
         ensures { λ r. ⌜ r ≡ newMonitor true ⌝ }
     {

@@ -1,5 +1,5 @@
-// Rule lists, carried over from industrial/iec61850-monitor/src/lib.rs of craton-shield a31d888527 (Apache-2.0) and changed: the
-// Rust would go past its array for a count above 16, which no call leads to.
+// Rule lists, carried over from industrial/iec61850-monitor/src/lib.rs of craton-shield a31d888527 (Apache-2.0) and changed: a
+// count above 16, which no call leads to, counts as 16.
 ghost use mathlib.Core.Path.{_≡_};
 ghost use Rattle.inspection.specs.Rules.{ruleCount, addAnswer};
 use records::alert::AlertCode;

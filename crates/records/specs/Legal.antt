@@ -3,7 +3,6 @@ use Prim.Native.Nat.{ℕ, _^_, _<_}
 use mathlib.Core.List.{List}
 use mathlib.Core.Path.{_≡_}
 use lib.ListN.{length}
-use Rattle.records.specs.declared.frame.MmsFrame.{MmsFrame}
 use Rattle.records.specs.declared.frame.GooseFrame.{GooseFrame}
 use Rattle.records.specs.declared.frame.SvFrame.{SvFrame}
 use Rattle.records.specs.Name.{octetAt}
@@ -29,15 +28,6 @@ pub record LegalSv (f : SvFrame) : Type 0 where
   pub time : f .«timestamp_us» < 2 ^ 64
   pub seconds : f .«t_seconds_since_epoch» < 2 ^ 32
   pub fraction : f .«t_fraction_of_second» < 2 ^ 32
-
--- an MMS frame within its types; the service and the kind of control block need nothing
-pub record LegalMms (f : MmsFrame) : Type 0 where
-  pub raw : f .«raw_service_type» < 256
-  pub domain-octets : OctetArray 64 (f .domain)
-  pub domain-length : f .«domain_len» < 256
-  pub invoke-id : f .«invoke_id» < 2 ^ 32
-  pub time : f .«timestamp_us» < 2 ^ 64
-  pub client : f .«client_id» < 2 ^ 32
 
 -- a GOOSE frame within its types; the test flag needs nothing
 pub record LegalGoose (f : GooseFrame) : Type 0 where
