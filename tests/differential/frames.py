@@ -428,4 +428,5 @@ def main(words):
             table.write(f"{name} {n}\n")
 
 
-main(sys.argv[1:])
+if __name__ == "__main__":
+    main(sys.argv[1:])

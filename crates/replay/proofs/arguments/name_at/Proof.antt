@@ -1,0 +1,51 @@
+-- `replay::arguments::name_at` stays within the name and ends. The loop's invariant: it has put at most 64
+-- octets. The measure is what is left of them. Assumes nothing.
+use Prim.Native.Nat.{_≤_, _-_}
+use borrow.Author.Needs.{needs}
+use Rattle.replay.proofs.arguments.name_at.Statement.{statement}
+use Rattle.replay.proofs.arguments.name_at.Tie as tie
+
+abbrev Inv-loop : tie.InvT-loop
+Inv-loop call at name₀ i₀ name i = i ≤ 64
+
+abbrev μ-loop : tie.MeasureT-loop
+μ-loop call at name₀ i₀ name i = 64 - i
+
+loop-holds : tie.Need-loop-holds Inv-loop μ-loop
+loop-holds c = search needs
+
+add-octet-at : tie.Need-add-octet-at Inv-loop μ-loop
+add-octet-at c = search needs
+
+octet-at-requires : tie.Need-octet-at-requires Inv-loop μ-loop
+octet-at-requires c κs = search needs
+
+array-write-name : tie.Need-array-write-name Inv-loop μ-loop
+array-write-name c = search needs
+
+add-i : tie.Need-add-i Inv-loop μ-loop
+add-i c = search needs
+
+loop-less : tie.Need-loop-less Inv-loop μ-loop
+loop-less c = search needs
+
+loop-again : tie.Need-loop-again Inv-loop μ-loop
+loop-again c = search needs
+
+returns : tie.Need-returns Inv-loop μ-loop
+returns c = search needs
+
+pub name-at-spec : {M : Type 1} → statement M
+name-at-spec =
+    tie.close
+    (tie.spec
+    Inv-loop
+    μ-loop
+    loop-holds
+    add-octet-at
+    octet-at-requires
+    array-write-name
+    add-i
+    loop-less
+    loop-again
+    returns)

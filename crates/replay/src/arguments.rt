@@ -1,0 +1,73 @@
+// The arguments of a call, out of its octets. Octets that the call does not have count as 0. Arguments stand at places up to 512, so
+// that no sum of places overflows.
+ghost use Prim.Native.Nat.{_+_, _≤_};
+use wire::number::least;
+use wire::number::octet_at;
+
+// The number in n of the octets from a place on, most significant first; the last eight count.
+fn number_at(call: &[u8], at: usize, n: usize) -> u64
+    requires { ⌜ at + n ≤ 1024 ⌝ }
+{
+    let mut value: u64 = 0;
+    let mut i: usize = 0;
+    while i < n {
+        value = (value << 8) | (octet_at(call, at + i) as u64);
+        i += 1;
+    }
+    value
+}
+
+pub fn u16_at(call: &[u8], at: usize) -> u16
+    requires { ⌜ at ≤ 512 ⌝ }
+{
+    (number_at(call, at, 2) % 0x1_0000) as u16
+}
+
+pub fn u32_at(call: &[u8], at: usize) -> u32
+    requires { ⌜ at ≤ 512 ⌝ }
+{
+    (number_at(call, at, 4) % 0x1_0000_0000) as u32
+}
+
+pub fn u64_at(call: &[u8], at: usize) -> u64
+    requires { ⌜ at ≤ 512 ⌝ }
+{
+    number_at(call, at, 8)
+}
+
+// A flag is any octet but 0.
+pub fn flag_at(call: &[u8], at: usize) -> bool {
+    octet_at(call, at) != 0
+}
+
+// The six octets of an address.
+pub fn mac_at(call: &[u8], at: usize) -> [u8; 6]
+    requires { ⌜ at ≤ 512 ⌝ }
+{
+    let mut mac = [0u8; 6];
+    let mut i: usize = 0;
+    while i < 6 {
+        mac[i] = octet_at(call, at + i);
+        i += 1;
+    }
+    mac
+}
+
+// The 64 octets of a name.
+pub fn name_at(call: &[u8], at: usize) -> [u8; 64]
+    requires { ⌜ at ≤ 512 ⌝ }
+{
+    let mut name = [0u8; 64];
+    let mut i: usize = 0;
+    while i < 64 {
+        name[i] = octet_at(call, at + i);
+        i += 1;
+    }
+    name
+}
+
+// What the call has from a place on.
+pub fn rest_at<'a>(call: &'a [u8], at: usize) -> &'a [u8] {
+    let start = least(at, call.len());
+    &call[start..]
+}

@@ -1,0 +1,235 @@
+// The calls of a script, by their numbers:
+//     0 new · 1 new_strict · 2 reset · 3 nothing, for the totals
+//     4 set_mms_service_mask · 5 set_mms_read_only · 6 set_block_test_frames · 7 set_sv_max_smp_cnt_gap
+//     8 set_retx_schedule · 9 set_time_max_forward_jump_s · 10 add_mms_rule · 11 add_goose_publisher · 12 add_sv_publisher
+//     13 inspect_mms · 14 inspect_goose · 15 inspect_sv · 16 inspect_raw_sv
+//     17 the service of a raw number · 18 an interval of a schedule and its tolerance
+// A number above 18 is as 3.
+ghost use Prim.Native.Nat.{_≤_};
+ghost use lib.ListN.{length};
+ghost use Rattle.io.specs.Counts.{Counts};
+use crate::answers::put_added;
+use crate::answers::put_raw_result;
+use crate::answers::put_result;
+use crate::answers::put_service;
+use crate::answers::put_totals;
+use crate::arguments::flag_at;
+use crate::arguments::mac_at;
+use crate::arguments::name_at;
+use crate::arguments::rest_at;
+use crate::arguments::u16_at;
+use crate::arguments::u32_at;
+use crate::arguments::u64_at;
+use crate::text::put_flag;
+use crate::text::put_number;
+use crate::text::put_octets;
+use inspection::monitor::Configured;
+use inspection::monitor::Iec61850Monitor;
+use inspection::monitor::Inspected;
+use records::frame::GooseFrame;
+use records::frame::MmsFrame;
+use records::frame::SvFrame;
+use records::schedule::RetxSchedule;
+use records::service::MmsServiceType;
+use wire::number::octet_at;
+use wire::sv::parse_sv;
+
+// The monitor after a call, and where the call's line ends.
+pub struct Step {
+    pub monitor: Iec61850Monitor,
+    pub end: usize,
+}
+
+// The step of a line that has only the totals still to come.
+fn with_totals(m: Iec61850Monitor, line: &mut [u8], at: usize) -> Step
+    requires { ⌜ at ≤ length (now line) ⌝ }
+    ensures { λ r. ⌜ Counts (r .end) (now (line .exit)) ⌝ }
+{
+    let end = put_totals(line, at, m);
+    Step {
+        monitor: m,
+        end: end,
+    }
+}
+
+// The schedule of the calls 8 and 18: initial and largest interval, tolerance.
+fn schedule(call: &[u8]) -> RetxSchedule {
+    RetxSchedule {
+        initial_us: u32_at(call, 1),
+        t_max_us: u32_at(call, 5),
+        tolerance_pct: octet_at(call, 9),
+    }
+}
+
+// The frame of call 13: service, raw number, stated length, name, invoke id, time, client, kind.
+fn mms_frame(call: &[u8]) -> MmsFrame {
+    MmsFrame {
+        service_type: MmsServiceType::from_u8(octet_at(call, 1)),
+        raw_service_type: octet_at(call, 2),
+        domain: name_at(call, 4),
+        domain_len: octet_at(call, 3),
+        invoke_id: u32_at(call, 68),
+        timestamp_us: u64_at(call, 72),
+        client_id: u32_at(call, 80),
+        control_block_is_goose: flag_at(call, 84),
+    }
+}
+
+// The frame of call 14: address, stated length, name, stNum, sqNum, test, time, clock.
+fn goose_frame(call: &[u8]) -> GooseFrame {
+    GooseFrame {
+        src_mac: mac_at(call, 1),
+        go_cb_ref: name_at(call, 8),
+        go_cb_ref_len: octet_at(call, 7),
+        st_num: u32_at(call, 72),
+        sq_num: u32_at(call, 76),
+        test: flag_at(call, 80),
+        timestamp_us: u64_at(call, 81),
+        t_seconds_since_epoch: u32_at(call, 89),
+        t_fraction_of_second: u32_at(call, 93),
+    }
+}
+
+// The frame of call 15: address, stated length, svID, smpCnt, rate, stated length, data set, time, clock.
+fn sv_frame(call: &[u8]) -> SvFrame {
+    SvFrame {
+        src_mac: mac_at(call, 1),
+        svid_len: octet_at(call, 7),
+        svid: name_at(call, 8),
+        smp_cnt: u16_at(call, 72),
+        smp_rate: u16_at(call, 74),
+        dataset_ref_len: octet_at(call, 76),
+        dataset_ref: name_at(call, 77),
+        timestamp_us: u64_at(call, 141),
+        t_seconds_since_epoch: u32_at(call, 149),
+        t_fraction_of_second: u32_at(call, 153),
+    }
+}
+
+// The monitor after one of the calls 0 to 9, which answer nothing else.
+fn settle(m: Iec61850Monitor, number: u8, call: &[u8]) -> Iec61850Monitor {
+    match number {
+        0 => Iec61850Monitor::new(),
+        1 => Iec61850Monitor::new_strict(),
+        2 => m.reset(),
+        4 => m.set_mms_service_mask(u16_at(call, 1)),
+        5 => m.set_mms_read_only(flag_at(call, 1)),
+        6 => m.set_block_test_frames(flag_at(call, 1)),
+        7 => m.set_sv_max_smp_cnt_gap(u16_at(call, 1)),
+        8 => m.set_retx_schedule(schedule(call), flag_at(call, 10)),
+        9 => m.set_time_max_forward_jump_s(u32_at(call, 1)),
+        _ => m,
+    }
+}
+
+// One of the calls 0 to 9.
+fn make_setting(m: Iec61850Monitor, number: u8, call: &[u8], line: &mut [u8]) -> Step
+    ensures { λ r. ⌜ Counts (r .end) (now (line .exit)) ⌝ }
+{
+    let monitor = settle(m, number, call);
+    let end = put_octets(line, 0, b"set");
+    with_totals(monitor, line, end)
+}
+
+// The monitor after one of the calls 10 to 12, with its answer. A name is what the call has behind its numbers.
+fn configure(m: Iec61850Monitor, number: u8, call: &[u8]) -> Configured {
+    match number {
+        10 => m.add_mms_rule(u16_at(call, 1), flag_at(call, 3), u16_at(call, 4)),
+        11 => m.add_goose_publisher(mac_at(call, 1), rest_at(call, 7)),
+        _ => m.add_sv_publisher(mac_at(call, 1), rest_at(call, 9), u16_at(call, 7)),
+    }
+}
+
+// One of the calls 10 to 12.
+fn make_addition(m: Iec61850Monitor, number: u8, call: &[u8], line: &mut [u8]) -> Step
+    ensures { λ r. ⌜ Counts (r .end) (now (line .exit)) ⌝ }
+{
+    let configured = configure(m, number, call);
+    let answer = configured.answer;
+    let end = put_added(line, answer);
+    let monitor = configured.monitor;
+    with_totals(monitor, line, end)
+}
+
+// The monitor after one of the calls 13 to 15, with its result.
+fn inspect(m: Iec61850Monitor, number: u8, call: &[u8]) -> Inspected {
+    match number {
+        13 => m.inspect_mms(mms_frame(call)),
+        14 => m.inspect_goose(goose_frame(call)),
+        _ => m.inspect_sv(sv_frame(call)),
+    }
+}
+
+// One of the calls 13 to 15.
+fn make_inspection(m: Iec61850Monitor, number: u8, call: &[u8], line: &mut [u8]) -> Step
+    ensures { λ r. ⌜ Counts (r .end) (now (line .exit)) ⌝ }
+{
+    let inspected = inspect(m, number, call);
+    let result = inspected.result;
+    let end = put_result(line, 0, result);
+    let monitor = inspected.monitor;
+    with_totals(monitor, line, end)
+}
+
+// Call 16: time, and the octets of the frame. What was read of it stands before the result.
+fn make_raw_inspection(m: Iec61850Monitor, call: &[u8], line: &mut [u8]) -> Step
+    ensures { λ r. ⌜ Counts (r .end) (now (line .exit)) ⌝ }
+{
+    let octets = rest_at(call, 9);
+    let time = u64_at(call, 1);
+    let parsed = parse_sv(octets, time);
+    let frame = parsed.frame;
+    let inspected = m.inspect_raw_sv(octets, time);
+    let answer = inspected.answer;
+    let result = inspected.result;
+    let end = put_raw_result(line, answer, frame, result);
+    let monitor = inspected.monitor;
+    with_totals(monitor, line, end)
+}
+
+// Call 17: a raw number.
+fn make_service(m: Iec61850Monitor, call: &[u8], line: &mut [u8]) -> Step
+    ensures { λ r. ⌜ Counts (r .end) (now (line .exit)) ⌝ }
+{
+    let end = put_service(line, MmsServiceType::from_u8(octet_at(call, 1)));
+    with_totals(m, line, end)
+}
+
+// Puts what a schedule answers to call 18: the interval of the sqNum, and whether the observed one is within tolerance.
+fn put_interval(line: &mut [u8], at: usize, schedule: RetxSchedule, call: &[u8]) -> usize
+    requires { ⌜ at ≤ length (now line) ⌝ }
+    ensures { λ r. ⌜ Counts r (now (line .exit)) ⌝ }
+{
+    let interval = schedule.expected_interval_us(u32_at(call, 10));
+    let within = schedule.within_tolerance(u32_at(call, 14), u32_at(call, 18));
+    let end = put_number(line, at, interval as u64);
+    put_flag(line, end, within)
+}
+
+// Call 18: a schedule, a sqNum, and an observed and an expected interval. The answers of the schedule come first, then those of the
+// schedule that a new monitor has.
+fn make_interval(m: Iec61850Monitor, call: &[u8], line: &mut [u8]) -> Step
+    ensures { λ r. ⌜ Counts (r .end) (now (line .exit)) ⌝ }
+{
+    let given = schedule(call);
+    let usual = RetxSchedule::default_8_1();
+    let start = put_octets(line, 0, b"interval");
+    let middle = put_interval(line, start, given, call);
+    let end = put_interval(line, middle, usual, call);
+    with_totals(m, line, end)
+}
+
+// Makes a call and puts its line.
+pub fn make_call(m: Iec61850Monitor, call: &[u8], line: &mut [u8]) -> Step
+    ensures { λ r. ⌜ Counts (r .end) (now (line .exit)) ⌝ }
+{
+    let number = octet_at(call, 0);
+    match number {
+        10 | 11 | 12 => make_addition(m, number, call, line),
+        13 | 14 | 15 => make_inspection(m, number, call, line),
+        16 => make_raw_inspection(m, call, line),
+        17 => make_service(m, call, line),
+        18 => make_interval(m, call, line),
+        _ => make_setting(m, number, call, line),
+    }
+}
