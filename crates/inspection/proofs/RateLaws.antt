@@ -1,15 +1,16 @@
 -- Laws of rates: the ways that a plan is made, its slot, and a plan carried out.
 use Prim.Native.Nat.{ℕ, _<_}
-use mathlib.Core.Bool.{Bool, true}
+use mathlib.Core.Bool.{true}
 use mathlib.Core.Path.{_≡_, _∙_, ap}
 use lib.ListN.{set}
 use Rattle.records.specs.declared.ageing.Ageing.{Ageing}
 use Rattle.records.specs.declared.ageing.EqualAges.the-variants.{Last}
+use Rattle.records.specs.declared.bucket.BucketCall.{BucketCall}
 use Rattle.records.specs.declared.bucket.RateBucket.{RateBucket}
 use Rattle.records.specs.declared.search.Found.{Found}
 use Rattle.records.specs.declared.search.Found.the-variants.{At, Nothing}
 use Rattle.records.specs.Ageing.{nextTick, slotFor, usedAt}
-use Rattle.records.specs.Bucket.{allows, consumed, firstCall}
+use Rattle.records.specs.Bucket.{nextCall, firstCall}
 use Rattle.records.specs.Remembered.{after}
 use Rattle.records.specs.Table.{slotOf}
 use Rattle.records.proofs.TableLaws.{target-found, value-found, target-new, value-new, target-below}
@@ -20,15 +21,15 @@ use Rattle.inspection.specs.Rate.{buckets, bucketAt, newBucket, nextBuck
 module _ (t : RateBuckets) (invokeId rate time : ℕ) where
   module _ {f : Found} (s : f ≡ slotOf buckets t invokeId) where
     pub plan-known :
-        {i : ℕ} {bucket : RateBucket} {allowed : Bool} → f ≡ At i → bucket ≡ consumed (bucketAt t i) time → allowed ≡ allows (bucketAt t i) time
-        → record { slot = i; bucket = bucket; allowed = allowed } ≡ ratePlan t invokeId rate time
+        {i : ℕ} {call : BucketCall} → f ≡ At i → call ≡ nextCall (bucketAt t i) time
+        → record { slot = i; bucket = call .bucket; allowed = call .allowed } ≡ ratePlan t invokeId rate time
     unfolding ratePlan
-    plan-known e b a =
+    plan-known e c =
         let known = value-found buckets t invokeId s e in
         λ j. record {
           slot = target-found buckets t invokeId s e Last j;
-          bucket = (b ∙ ap (λ kept. after newBucket nextBucket kept (rate, time)) known) j;
-          allowed = (a ∙ ap (λ kept. withinRate kept (rate, time)) known) j;
+          bucket = (ap (λ call. call .bucket) c ∙ ap (λ kept. after newBucket nextBucket kept (rate, time)) known) j;
+          allowed = (ap (λ call. call .allowed) c ∙ ap (λ kept. withinRate kept (rate, time)) known) j;
         }
 
     pub plan-new :

@@ -73,10 +73,12 @@ pub fn rate_plan<'a>(
                 capacity: most,
                 last_refill_us: time,
             };
+            let call = kept.next_call(now_us);
+            let bucket = call.bucket;
             RatePlan {
                 slot: i,
-                bucket: kept.consumed(now_us),
-                allowed: kept.allows(now_us),
+                bucket: bucket,
+                allowed: call.allowed,
             }
         }
         Found::Nothing => RatePlan {

@@ -4,6 +4,7 @@ pub mod NumberLaws
 pub mod Products
 pub mod HashLaws
 pub mod BucketLaws
+pub mod BucketWalks
 pub mod ScheduleLaws
 pub mod NameLaws
 pub mod OctetLaws

@@ -3,6 +3,7 @@ use Prim.Native.Nat.{ℕ, _+_, _*_, _/_, _^_, min, _-_}
 use mathlib.Core.Bool.{Bool, cond}
 use lib.Dec.{ltb, eqb}
 use Rattle.records.specs.declared.bucket.RateBucket.{RateBucket}
+use Rattle.records.specs.declared.bucket.BucketCall.{BucketCall}
 
 -- elapsed × capacity div 1,000,000, the most if the product passes 64 bits
 unfoldable pub refill : ℕ → ℕ → ℕ
@@ -34,6 +35,10 @@ allows b time = ltb 0 (refilled b time .tokens)
 -- then one token is taken if there is one
 unfoldable pub consumed : RateBucket → ℕ → RateBucket
 consumed b time = bucketWith (refilled b time) (refilled b time .tokens - 1) (refilled b time .«last_refill_us»)
+
+-- a call gives both: the bucket after it, and whether it was allowed
+abbrev pub nextCall : RateBucket → ℕ → BucketCall
+nextCall b time = record { bucket = consumed b time; allowed = allows b time }
 
 -- a new bucket holds capacity − 1 after its first call
 abbrev pub firstCall : ℕ → ℕ → RateBucket

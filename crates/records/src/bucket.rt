@@ -1,13 +1,19 @@
-// Carried over from industrial/types-ind/src/lib.rs of craton-shield a31d888527 (Apache-2.0) and changed: a bucket goes in by
-// value and comes back; its key and its use belong to the table that keeps it.
+// Carried over from industrial/types-ind/src/lib.rs of craton-shield a31d888527 (Apache-2.0) and changed: the work is on a
+// bucket by value, and `try_consume` puts its outcome into a lent one; its key and its use belong to the table that keeps it.
 ghost use mathlib.Core.Path.{_≡_};
-ghost use Rattle.records.specs.Bucket.{refill, tokensWith, refilled, allows, consumed, firstCall};
+ghost use Rattle.records.specs.Bucket.{refill, tokensWith, refilled, allows, consumed, nextCall, firstCall};
 
 // A token bucket: tokens per second, tokens left, and the time of the last refill.
 pub struct RateBucket {
     pub tokens: u16,
     pub capacity: u16,
     pub last_refill_us: u64,
+}
+
+// A bucket after a call, and whether the call was allowed.
+pub struct BucketCall {
+    pub bucket: RateBucket,
+    pub allowed: bool,
 }
 
 // The tokens that a time brings, the most where the product passes 64 bits.
@@ -76,6 +82,29 @@ impl RateBucket {
             b.tokens = b.tokens - 1;
         }
         b
+    }
+
+    // A call on a lent bucket: the answer, and the bucket changed in its place.
+    pub fn try_consume(&mut self, now_us: u64) -> bool
+        ensures { λ r.
+            ⌜ (r ≡ allows (now (self .entry)) «now_us») × (now (self .exit) ≡ consumed (now (self .entry)) «now_us») ⌝ }
+    {
+        let kept = *self;
+        let allowed = kept.allows(now_us);
+        *self = kept.consumed(now_us);
+        allowed
+    }
+
+    // A call on a bucket by value, which is lent for it.
+    pub fn next_call(self, now_us: u64) -> BucketCall
+        ensures { λ r. ⌜ r ≡ nextCall self «now_us» ⌝ }
+    {
+        let mut lent = self;
+        let allowed = lent.try_consume(now_us);
+        BucketCall {
+            bucket: lent,
+            allowed: allowed,
+        }
     }
 
     // A new bucket after its first call, which it allows.

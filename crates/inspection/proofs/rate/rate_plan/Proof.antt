@@ -34,11 +34,8 @@ mul-time c = omega (arith, slot-below (c .before .before))
 element-copy-out-time : tie.Need-element-copy-out-time
 element-copy-out-time c = slot-below (c .before .before)
 
-consumed-requires : tie.Need-consumed-requires
-consumed-requires c κs = search needs
-
-allows-requires : tie.Need-allows-requires
-allows-requires c κs = search needs
+next-call-requires : tie.Need-next-call-requires
+next-call-requires c κs = search needs
 
 enum-told : tie.Need-enum-told
 enum-told c = search needs
@@ -55,7 +52,7 @@ first-call-requires c κs = search needs
 returns : tie.Need-returns
 returns c =
     let f = c .before .before .before .before .before .before in
-    plan-known _ _ _ _ (f .before .before .find-number .ensures) (f .i .given .1) (c .before .consumed .ensures) (c .allows .ensures)
+    plan-known _ _ _ _ (f .before .before .find-number .ensures) (f .i .given .1) (c .before .next-call .ensures)
 
 returns-2 : tie.Need-returns-2
 returns-2 c =
@@ -75,8 +72,7 @@ rate-plan-spec =
     element-copy-out-most
     mul-time
     element-copy-out-time
-    consumed-requires
-    allows-requires
+    next-call-requires
     enum-told
     next-tick-requires
     slot-for-requires
