@@ -19,7 +19,7 @@ use Rattle.wire.specs.declared.element.Element.{Element}
 use Rattle.wire.specs.declared.element.Element.the-variants.{Read, Unreadable}
 use Rattle.wire.specs.Number.{bigEndian}
 use Rattle.wire.proofs.PartLaws.{rest-is, part-octets}
-use Rattle.wire.specs.Element.{limited, longForm, lengthOf, within, withLength, element, Elements, ended, unreadable, next, elementThen, elementsOf, elements, firstContent, opened, contentOf}
+use Rattle.wire.specs.Element.{limited, longForm, lengthOf, within, withLength, element, Elements, ended, unreadable, next, elementThen, afterElement, elementsOf, elements, firstContent, opened, contentOf}
 
 module _ (tag start len total : ℕ) where
   pub within-is : start + len ≤ total → within tag start len total ≡ Read tag start len (start + len)
@@ -188,6 +188,11 @@ module _ (octets : List ℕ) where
           let b = element-end (o ∷ more) e in
           rw e (ap (next tag (take len (drop start (o ∷ more))))
           (elements-enough (length more) (length (drop end (o ∷ more))) (drop end (o ∷ more)) (simp length-drop (omega arith)) (omega arith)))
+
+  -- what a reader yields: the element at the front, then the elements of what is left past it
+  pub reader-yields : 0 < length octets → (e : Element) → e ≡ element octets → {more : List ℕ} → more ≡ afterElement octets e → elements octets ≡ elementThen (λ _. elements more) octets e
+  reader-yields h Unreadable q m = elements-unreadable h (sym q)
+  reader-yields h (Read tag start len end) q m = elements-read (sym q) ∙ rw m
 
 -- the first element with a tag, one element at a time
 module _ (tag : ℕ) (octets : List ℕ) where

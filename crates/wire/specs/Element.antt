@@ -51,6 +51,11 @@ abbrev pub elementThen : (List ℕ → Elements) → List ℕ → Element → El
 elementThen follow octets Unreadable = unreadable
 elementThen follow octets (Read tag start len end) = next tag (take len (drop start octets)) (follow (drop end octets))
 
+-- what follows an element; nothing where it is unreadable
+abbrev pub afterElement : List ℕ → Element → List ℕ
+afterElement octets (Read tag start len end) = drop end octets
+afterElement octets Unreadable = []
+
 -- nothing, or an element and what follows it
 abbrev pub elementsThen : (List ℕ → Elements) → List ℕ → Elements
 elementsThen follow [] = ended

@@ -2,7 +2,7 @@
 use Prim.Native.Nat.{ℕ, _-_}
 use mathlib.Core.Bool.{Bool, true, false, _&&_, _||_, cond}
 use mathlib.Core.List.{List, [], _∷_}
-use lib.Dec.{eqb, leb}
+use lib.Dec.{eqb, ltb, leb}
 use lib.ListN.{length, take, drop}
 use Rattle.records.specs.declared.error.VsError.the-variants.{InvalidInput}
 use Rattle.records.specs.declared.frame.SvFrame.{SvFrame}
@@ -16,6 +16,9 @@ use Rattle.wire.specs.declared.header.Apdu.the-variants.{At, Refused}
 use Rattle.wire.specs.declared.sv.Parsed.{Parsed}
 use Rattle.wire.specs.declared.sv.Parsed.the-variants.{Frame, Error}
 use Rattle.wire.specs.declared.sv.ParsedSv.{ParsedSv}
+use Rattle.wire.specs.declared.sv.SvFields.{SvFields}
+use Rattle.wire.specs.declared.element.Element.{Element}
+use Rattle.wire.specs.declared.element.Element.the-variants.{Read, Unreadable}
 use Rattle.wire.specs.Number.{bigEndian, pairAt, unsignedInt}
 use Rattle.wire.specs.Element.{Elements, ended, unreadable, next, elements, firstContent, opened}
 use Rattle.wire.specs.Header.{header}
@@ -75,6 +78,33 @@ fieldsFrom f counted ended = cond counted (record { answer = Frame; frame = f })
 fieldsFrom f counted unreadable = refusedSv
 fieldsFrom f counted (next tag content rest) =
     cond (fieldFits tag content) (fieldsFrom (withField f tag content) (counted || eqb tag 0x82) rest) refusedSv
+
+-- the fields so far, of which none is read yet, or which are refused
+abbrev pub noFields : SvFrame → SvFields
+noFields f = record { frame = f; counted = false; refused = false }
+
+abbrev pub refusedFields : SvFields → SvFields
+refusedFields s = record { frame = s .frame; counted = s .counted; refused = true }
+
+-- reading goes on up to the end or to a refusal
+unfoldable pub goesOn : List ℕ → SvFields → Bool
+goesOn unread s = cond (s .refused) false (ltb 0 (length unread))
+
+-- the fields with one more element
+unfoldable pub withElement : List ℕ → Element → SvFields → SvFields
+withElement unread Unreadable s = refusedFields s
+withElement unread (Read tag start len end) s =
+    cond (fieldFits tag (take len (drop start unread)))
+    (record {
+      frame = withField (s .frame) tag (take len (drop start unread));
+      counted = s .counted || eqb tag 0x82;
+      refused = s .refused;
+    })
+    (refusedFields s)
+
+-- the frame that the fields so far give with the elements that follow
+unfoldable pub fieldsOn : SvFields → Elements → ParsedSv
+fieldsOn s e = cond (s .refused) refusedSv (fieldsFrom (s .frame) (s .counted) e)
 
 -- the default frame, with its source and its time
 abbrev pub emptyFrame : List ℕ → ℕ → SvFrame

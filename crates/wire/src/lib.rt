@@ -2,4 +2,5 @@
 pub mod element;
 pub mod header;
 pub mod number;
+pub mod reader;
 pub mod sv;

@@ -4,14 +4,12 @@ ghost use mathlib.Core.Path.{_≡_};
 ghost use mathlib.Core.Bool.{false};
 ghost use lib.ListN.{length};
 ghost use Rattle.records.specs.Name.{validLen};
-ghost use Rattle.wire.specs.Element.{elements};
-ghost use Rattle.wire.specs.Sv.{fieldFits, overlaid, withField, refusedSv, fieldsFrom, apduFrame, svFrame};
+ghost use Rattle.wire.specs.Element.{elements, ended};
+ghost use Rattle.wire.specs.Sv.{fieldFits, overlaid, withField, refusedSv, fieldsFrom, noFields, refusedFields, goesOn, withElement, fieldsOn, apduFrame, svFrame};
 use crate::element::Element;
 use crate::element::content;
 use crate::element::first_content;
 use crate::element::opened;
-use crate::element::parse_tlv;
-use crate::element::rest;
 use crate::header::Apdu;
 use crate::header::ETHERTYPE_SV;
 use crate::header::ethernet_header;
@@ -19,6 +17,9 @@ use crate::number::Unsigned;
 use crate::number::big_endian;
 use crate::number::decode_unsigned_int;
 use crate::number::pair_at;
+use crate::reader::ElementReader;
+use crate::reader::front;
+use crate::reader::past;
 use records::error::VsError;
 use records::frame::SvFrame;
 
@@ -32,6 +33,13 @@ pub enum Parsed {
 pub struct ParsedSv {
     pub answer: Parsed,
     pub frame: SvFrame,
+}
+
+// What was read of an ASDU so far: the frame, whether it has a count, and whether it is refused.
+pub struct SvFields {
+    frame: SvFrame,
+    counted: bool,
+    refused: bool,
 }
 
 // An unreadable frame.
@@ -144,41 +152,94 @@ pub fn with_field(frame: SvFrame, tag: u8, field: &[u8]) -> SvFrame
     frame
 }
 
-// The fields of an ASDU, one after the other, from a frame on.
+// No field is read yet.
+fn no_fields(frame: SvFrame) -> SvFields
+    ensures { λ r. ⌜ r ≡ noFields frame ⌝ }
+{
+    SvFields {
+        frame: frame,
+        counted: false,
+        refused: false,
+    }
+}
+
+// The fields so far, refused.
+fn refused_fields(fields: SvFields) -> SvFields
+    ensures { λ r. ⌜ r ≡ refusedFields fields ⌝ }
+{
+    let mut out = fields;
+    out.refused = true;
+    out
+}
+
+// Whether there is something to read: nothing after a refusal.
+fn goes_on(unread: &[u8], fields: SvFields) -> bool
+    ensures { λ r. ⌜ r ≡ goesOn (now (unread .entry)) fields ⌝ }
+{
+    if fields.refused {
+        return false;
+    }
+    unread.len() > 0
+}
+
+// The fields with the element at the front of what is unread.
+fn with_element(unread: &[u8], element: Element, fields: SvFields) -> SvFields
+    ensures { λ r. ⌜ r ≡ withElement (now (unread .entry)) element fields ⌝ }
+{
+    let Element::Read {
+        tag,
+        start,
+        len,
+        end: _,
+    } = element
+    else {
+        return refused_fields(fields);
+    };
+    let field = content(unread, start, len);
+    if !field_fits(tag, field) {
+        return refused_fields(fields);
+    }
+    let frame = fields.frame;
+    let mut counted = fields.counted;
+    if tag == 0x82 {
+        counted = true;
+    }
+    SvFields {
+        frame: with_field(frame, tag, field),
+        counted: counted,
+        refused: fields.refused,
+    }
+}
+
+// The frame that the fields give at the end.
+fn finished(fields: SvFields) -> ParsedSv
+    ensures { λ r. ⌜ r ≡ fieldsOn fields ended ⌝ }
+{
+    if fields.refused {
+        return refused_sv();
+    }
+    if !fields.counted {
+        return refused_sv();
+    }
+    let frame = fields.frame;
+    ParsedSv {
+        answer: Parsed::Frame,
+        frame: frame,
+    }
+}
+
+// The fields of an ASDU, one after the other, from a frame on, through a reader over the ASDU.
 pub fn read_fields(asdu: &[u8], frame: SvFrame) -> ParsedSv
     ensures { λ r. ⌜ r ≡ fieldsFrom frame false (elements (now (asdu .entry))) ⌝ }
 {
-    let mut unread = asdu;
-    let mut out = frame;
-    let mut counted = false;
-    while unread.len() > 0 {
-        let Element::Read {
-            tag,
-            start,
-            len,
-            end,
-        } = parse_tlv(unread)
-        else {
-            return refused_sv();
-        };
-        let field = content(unread, start, len);
-        if !field_fits(tag, field) {
-            return refused_sv();
-        }
-        out = with_field(out, tag, field);
-        if tag == 0x82 {
-            counted = true;
-        }
-        let more = rest(unread, end);
-        unread = more;
+    let mut reader = ElementReader { unread: asdu };
+    let mut fields = no_fields(frame);
+    while goes_on(reader.unread, fields) {
+        let element = front(reader);
+        fields = with_element(reader.unread, element, fields);
+        reader = past(reader, element);
     }
-    if !counted {
-        return refused_sv();
-    }
-    ParsedSv {
-        answer: Parsed::Frame,
-        frame: out,
-    }
+    finished(fields)
 }
 
 // The frame of an APDU.
