@@ -24,7 +24,7 @@ use Rattle.inspection.specs.declared.sv_seq.SvSeqOutcome.{SvSeqOutcome}
 use Rattle.inspection.specs.declared.sv_seq.SvSeqOutcome.the-variants.{FirstSeen, Replay, ForwardGap, CycleWrap, SuspiciousSmpGap}
 use Rattle.inspection.specs.declared.sv_seq.SvChecked.{SvChecked}
 use Rattle.inspection.specs.declared.sv_seq.SvPlan.{SvPlan}
-use Rattle.inspection.specs.SvSeq.{countOutcome, isReplay, svChecked, svPlan}
+use Rattle.inspection.specs.SvSeq.{countOutcome, isReplay, svChecked, svPlan, svKeptChecked}
 
 module _ (c n : ℕ) where
   pub count-same : n ≡ c → Replay ≡ countOutcome c n
@@ -86,41 +86,45 @@ module _ (t : SvSeqTable) (octets : List ℕ) (len n : ℕ) where
 
 -- ---- a plan carried out
 
--- the streams with other names
-abbrev pub withSvids : SvSeqTable → Names → SvSeqTable
-withSvids t names = record { svid = names; «last_smp_cnt» = t .«last_smp_cnt»; ageing = t .ageing }
-
--- the name of a plan's slot stored
-abbrev named : SvSeqTable → List ℕ → ℕ → SvPlan → SvSeqTable
-named t octets len p = withSvids t (nameStored (t .svid) (p .slot) octets len)
-
--- a known slot is left as it is
-named-known :
-    (t : SvSeqTable) (octets : List ℕ) (len n : ℕ) {p : SvPlan} → p ≡ svPlan t octets len n → p .known ≡ true → t ≡ named t octets len p
-named-known t octets len n e k =
-    ap (withSvids t) (rw e (sym (plan-known t octets len n (answered (ap (λ (p : SvPlan). p .known) e) k))))
-
--- the rest of a plan carried out
-abbrev carriedOut : SvSeqTable → Ageing → SvPlan → SvChecked
-carriedOut t ageing p =
-    record {
-      table = record { svid = t .svid; «last_smp_cnt» = set (t .«last_smp_cnt») (p .slot) (p .«smp_cnt»); ageing = ageing };
+-- the plan's slot used: the names and the ageing that the code leaves, and the count
+pub plan-carried-out :
+    (t : SvSeqTable) (octets : List ℕ) (len n : ℕ) {p : SvPlan} {names : Names} {used : Ageing} {New Known : Type 0}
+    → p ≡ svPlan t octets len n
+    → (New → names ≡ nameStored (t .svid) (p .slot) octets len) → (Known → (p .known ≡ true) × (names ≡ t .svid)) → New ⊎ Known
+    → used ≡ usedAt (t .ageing) (p .slot)
+    → record {
+      table = record { svid = names; «last_smp_cnt» = set (t .«last_smp_cnt») (p .slot) (p .«smp_cnt»); ageing = used };
       outcome = p .outcome;
     }
+    ≡ svKeptChecked t octets len n
+unfolding svKeptChecked
+plan-carried-out t octets len n {p} {names} {used} e new known came u =
+    (λ i. record {
+      table = record { svid = named i; «last_smp_cnt» = set (t .«last_smp_cnt») (p .slot) (p .«smp_cnt»); ageing = u i };
+      outcome = p .outcome;
+    })
+    ∙ ap carriedOut e
+  where
+    carriedOut : SvPlan → SvChecked
+    carriedOut q =
+        record {
+          table = record {
+            svid = nameStored (t .svid) (q .slot) octets len;
+            «last_smp_cnt» = set (t .«last_smp_cnt») (q .slot) (q .«smp_cnt»);
+            ageing = usedAt (t .ageing) (q .slot);
+          };
+          outcome = q .outcome;
+        }
 
-plan-checked :
-    (t : SvSeqTable) (svid : List ℕ) (n : ℕ) {octets : List ℕ} {len : ℕ} → octets ≡ padded svid (length svid) → len ≡ length svid
-    → let p = svPlan t octets len n in carriedOut (named t octets len p) (usedAt (t .ageing) (p .slot)) p ≡ svChecked t svid n
-unfolding svPlan svChecked
-plan-checked t svid n e l = rw (e, l)
+    -- a known slot has the name already
+    named : names ≡ nameStored (t .svid) (p .slot) octets len
+    named =
+        ⊎-elim new
+        (λ w. known w .1 ∙ rw e (sym (plan-known t octets len n (answered (ap (λ (q : SvPlan). q .known) e) (known w .0))))) came
 
-pub plan-carried-out :
-    (t : SvSeqTable) (svid : List ℕ) (len n : ℕ) {k : ℕ} {octets : List ℕ} {p : SvPlan} {out : SvSeqTable} {used : Ageing} {New Known : Type 0}
-    → length svid ≡ 64 → k ≡ validLen len → octets ≡ padded svid k → p ≡ svPlan t octets k n
-    → (New → out ≡ named t octets k p) → (Known → (p .known ≡ true) × (out ≡ t)) → New ⊎ Known → used ≡ usedAt (out .ageing) (p .slot)
-    → carriedOut out used p ≡ svChecked t (nameOf svid len) n
-plan-carried-out t svid len n {k} {octets} {p} {out} {used} size a b c new known came e =
-    ap (λ (u : Ageing). carriedOut out u p) e
-    ∙ ap (λ (o : SvSeqTable). carriedOut o (usedAt (o .ageing) (p .slot)) p) (⊎-elim new (λ w. known w .1 ∙ named-known t octets k n c (known w .0)) came)
-    ∙ ap (λ (q : SvPlan). carriedOut (named t octets k q) (usedAt (t .ageing) (q .slot)) q) c
-    ∙ plan-checked t (nameOf svid len) n (kept-octets svid len size a b) (kept-len svid len size a b)
+-- an svID is kept as its octets, padded, and its length
+pub kept-checked :
+    (t : SvSeqTable) (svid : List ℕ) (n : ℕ) {octets : List ℕ} {len : ℕ}
+    → octets ≡ padded svid (length svid) → len ≡ length svid → svKeptChecked t octets len n ≡ svChecked t svid n
+unfolding svKeptChecked svPlan svChecked
+kept-checked t svid n e l = rw (e, l)

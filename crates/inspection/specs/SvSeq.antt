@@ -9,7 +9,7 @@ use Rattle.records.specs.declared.ageing.EqualAges.the-variants.{First}
 use Rattle.records.specs.declared.frame.SvFrame.{SvFrame}
 use Rattle.records.specs.declared.search.Found.{Found}
 use Rattle.records.specs.Ageing.{newSlot, noUse, usedAt}
-use Rattle.records.specs.Name.{nameOf, sameName, hasName, withName, noNames}
+use Rattle.records.specs.Name.{nameOf, sameName, nameStored, hasName, withName, noNames}
 use Rattle.records.specs.Remembered.{after}
 use Rattle.records.specs.Search.{firstUsed, slotOr, isFound}
 use Rattle.records.specs.Table.{Columns, valueAt, valueOf, stepped}
@@ -107,3 +107,18 @@ svPlanAt t n found =
 unfoldable pub svPlan : SvSeqTable → List ℕ → ℕ → ℕ → SvPlan
 svPlan t octets len n =
     svPlanAt t n (firstUsed (t .ageing .active) (λ i. sameName (t .svid .octets) (t .svid .lens) i octets len))
+
+-- the streams after a frame, and what its count says, from the svID as it is kept
+unfoldable pub svKeptChecked : SvSeqTable → List ℕ → ℕ → ℕ → SvChecked
+svKeptChecked t octets len n = carriedOut (svPlan t octets len n)
+  where
+    carriedOut : SvPlan → SvChecked
+    carriedOut p =
+        record {
+          table = record {
+            svid = nameStored (t .svid) (p .slot) octets len;
+            «last_smp_cnt» = set (t .«last_smp_cnt») (p .slot) (p .«smp_cnt»);
+            ageing = usedAt (t .ageing) (p .slot);
+          };
+          outcome = p .outcome;
+        }

@@ -3,14 +3,16 @@
 ghost use mathlib.Core.Path.{_≡_};
 ghost use Rattle.records.specs.Name.{sameName, nameOf};
 ghost use Rattle.records.specs.Search.{firstUsed};
-ghost use Rattle.inspection.specs.SvSeq.{noSvStreams, countOutcome, outcomeNumber, isReplay, svChecked, svTableOf, svPlan};
+ghost use Rattle.inspection.specs.SvSeq.{noSvStreams, countOutcome, outcomeNumber, isReplay, svChecked, svTableOf, svPlan, svKeptChecked};
 use records::ageing::Ageing;
 use records::ageing::EqualAges;
 use records::ageing::next_tick;
 use records::ageing::slot_for;
+use records::ageing::use_slot;
 use records::name::Names;
 use records::name::padded;
 use records::name::same_name;
+use records::name::store_name;
 use records::name::valid_len;
 use records::search::Found;
 
@@ -156,33 +158,77 @@ pub fn sv_plan<'a>(
     }
 }
 
+// Counts a frame in the columns of the streams, and answers what its count says. The svID is 64 octets, zeros behind its end.
+pub fn check_sv_seq_in<'a>(
+    octets: &'a mut [u8; 1024],
+    lens: &'a mut [u8; 16],
+    last_smp_cnt: &'a mut [u16; 16],
+    active: &'a mut [bool; 16],
+    last_used: &'a mut [u32; 16],
+    tick: &'a mut u32,
+    svid: &'a [u8; 64],
+    svid_len: u8,
+    smp_cnt: u16,
+) -> SvSeqOutcome
+    ensures { λ r.
+        ⌜ record { table = svTableOf (now (octets .exit)) (now (lens .exit)) (now («last_smp_cnt» .exit)) (now (active .exit)) (now («last_used» .exit)) (now (tick .exit)); outcome = r } ≡ svKeptChecked (svTableOf (now (octets .entry)) (now (lens .entry)) (now («last_smp_cnt» .entry)) (now (active .entry)) (now («last_used» .entry)) (now (tick .entry))) (now (svid .entry)) «svid_len» «smp_cnt» ⌝ }
+{
+    let plan = sv_plan(
+        octets,
+        lens,
+        last_smp_cnt,
+        active,
+        last_used,
+        *tick,
+        svid,
+        svid_len,
+        smp_cnt,
+    );
+    let slot = plan.slot;
+    if !plan.known {
+        store_name(octets, lens, slot, svid, svid_len);
+    }
+    last_smp_cnt[slot] = plan.smp_cnt;
+    use_slot(active, last_used, tick, slot);
+    plan.outcome
+}
+
 // The streams after a frame of this svID and count, and what the count says.
 pub fn check_sv_seq(t: SvSeqTable, svid: [u8; 64], svid_len: u8, smp_cnt: u16) -> SvChecked
     ensures { λ r. ⌜ r ≡ svChecked t (nameOf svid «svid_len») «smp_cnt» ⌝ }
 {
     let len = valid_len(svid_len);
     let name = padded(&svid, len);
-    let mut out = t;
-    let plan = sv_plan(
-        &out.svid.octets,
-        &out.svid.lens,
-        &out.last_smp_cnt,
-        &out.ageing.active,
-        &out.ageing.last_used,
-        out.ageing.tick,
+    let mut octets = t.svid.octets;
+    let mut lens = t.svid.lens;
+    let mut last_smp_cnt = t.last_smp_cnt;
+    let mut active = t.ageing.active;
+    let mut last_used = t.ageing.last_used;
+    let mut tick = t.ageing.tick;
+    let outcome = check_sv_seq_in(
+        &mut octets,
+        &mut lens,
+        &mut last_smp_cnt,
+        &mut active,
+        &mut last_used,
+        &mut tick,
         &name,
         len,
         smp_cnt,
     );
-    let slot = plan.slot;
-    if !plan.known {
-        out.svid = out.svid.stored(slot, &name, len);
-    }
-    out.last_smp_cnt[slot] = plan.smp_cnt;
-    out.ageing = out.ageing.used(slot);
-    let outcome = plan.outcome;
     SvChecked {
-        table: out,
+        table: SvSeqTable {
+            svid: Names {
+                octets: octets,
+                lens: lens,
+            },
+            last_smp_cnt: last_smp_cnt,
+            ageing: Ageing {
+                active: active,
+                last_used: last_used,
+                tick: tick,
+            },
+        },
         outcome: outcome,
     }
 }

@@ -92,6 +92,24 @@ pub fn slot_for<'a>(
     }
 }
 
+// Marks a use of a slot in the columns of ageing; a slot of 16 or more changes nothing.
+pub fn use_slot<'a>(
+    active: &'a mut [bool; 16],
+    last_used: &'a mut [u32; 16],
+    tick: &'a mut u32,
+    slot: usize,
+)
+    ensures { λ _. ⌜ record { active = now (active .exit); «last_used» = now («last_used» .exit); tick = now (tick .exit) } ≡ usedAt (record { active = now (active .entry); «last_used» = now («last_used» .entry); tick = now (tick .entry) }) slot ⌝ }
+{
+    if slot >= 16 {
+        return;
+    }
+    let next = next_tick(*tick);
+    active[slot] = true;
+    last_used[slot] = next;
+    *tick = next;
+}
+
 impl Ageing {
     // No slot in use.
     pub fn new() -> Self
@@ -108,14 +126,14 @@ impl Ageing {
     pub fn used(self, slot: usize) -> Self
         ensures { λ r. ⌜ r ≡ usedAt self slot ⌝ }
     {
-        if slot >= 16 {
-            return self;
+        let mut active = self.active;
+        let mut last_used = self.last_used;
+        let mut tick = self.tick;
+        use_slot(&mut active, &mut last_used, &mut tick, slot);
+        Ageing {
+            active: active,
+            last_used: last_used,
+            tick: tick,
         }
-        let tick = next_tick(self.tick);
-        let mut out = self;
-        out.active[slot] = true;
-        out.last_used[slot] = tick;
-        out.tick = tick;
-        out
     }
 }

@@ -16,18 +16,18 @@ use Rattle.records.proofs.name.padded.Reads as reads
 use Rattle.records.proofs.name.padded.Lts as lts
 
 abbrev Inv-loop : tie.InvT-loop
-Inv-loop octets len end out₀ i₀ out i =
+Inv-loop octets len out₀ i₀ out i =
     (i ≤ 64) × (out ≡ overwritten (replicate 64 0) 0 (λ k. cond (ltb k len) (octetAt octets k) 0) i)
 
 abbrev μ-loop : tie.MeasureT-loop
-μ-loop octets len end out₀ i₀ out i = 64 - i
-
-cast-end : tie.Need-cast-end Inv-loop μ-loop
-cast-end c = omega arith
+μ-loop octets len out₀ i₀ out i = 64 - i
 
 loop-holds : tie.Need-loop-holds Inv-loop μ-loop
 unfolding overwritten
 loop-holds c = (omega arith, refl)
+
+cast-if1 : tie.Need-cast-if1 Inv-loop μ-loop
+cast-if1 c = omega arith
 
 element-copy-out-out : tie.Need-element-copy-out-out Inv-loop μ-loop
 element-copy-out-out c = omega arith
@@ -63,8 +63,8 @@ padded-spec =
     (tie.spec
     Inv-loop
     μ-loop
-    cast-end
     loop-holds
+    cast-if1
     element-copy-out-out
     array-write-out
     add-i
