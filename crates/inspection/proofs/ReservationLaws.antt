@@ -19,7 +19,7 @@ use Rattle.records.proofs.Booleans.{and-false, cond-yes, cond-no, answered}
 use Rattle.records.proofs.NameLaws.{kept-len, kept-octets}
 use Rattle.records.proofs.TableLaws.{found-below}
 use Rattle.inspection.specs.declared.reservation.CbReservations.{CbReservations}
-use Rattle.inspection.specs.Reservation.{sameKind, reservesAt, reserves, ownedBy, reservationOf, takenAt, placeOr, reservedAt, reserved, freedBelow, withActive, freedAt, released, boundTo, usedBy, cbChecked}
+use Rattle.inspection.specs.Reservation.{sameKind, reservesAt, reserves, ownedBy, reservationOf, takenAt, placeOr, reservedAt, reserved, freedBelow, withActive, freedAt, released, boundTo, usedBy, cbChecked, cbKeptChecked}
 
 -- ---- the test of a slot
 
@@ -135,18 +135,6 @@ module _ (r : CbReservations) (octets : List ℕ) (stated : ℕ) (size : length 
       ap (λ (x : Found). freedAt r x) (sym a ∙ e ∙ sym (ap (λ (t : ℕ → Bool). first (λ i. t i && ownedBy r client i)) same-holds))
       ∙ sym (cond-no _ _ (ne-eqb (length (nameOf octets stated)) 0 (λ q. z (kept-len octets stated size n p ∙ q))))
 
-  -- the use by a frame
-  pub checked-empty : (address : ℕ) → len ≡ 0 → record { table = r; hijack = false } ≡ cbChecked r (nameOf octets stated) isGoose address
-  unfolding cbChecked
-  checked-empty address z = sym (cond-yes _ _ (eq-eqb (length (nameOf octets stated)) 0 (answered (kept-len octets stated size n p) z)))
-
-  pub checked-found :
-      (address : ℕ) {f : Found} → (len ≡ 0 → ⊥) → f ≡ first holds → usedBy r address f ≡ cbChecked r (nameOf octets stated) isGoose address
-  unfolding cbChecked
-  checked-found address z e =
-      ap (λ (x : Found). usedBy r address x) (e ∙ sym same-place)
-      ∙ sym (cond-no _ _ (ne-eqb (length (nameOf octets stated)) 0 (λ q. z (kept-len octets stated size n p ∙ q))))
-
 -- ---- the use of a slot by an address
 
 module _ (r : CbReservations) (address : ℕ) {f : Found} where
@@ -160,19 +148,23 @@ module _ (r : CbReservations) (address : ℕ) {f : Found} where
     pub used-first : getD (r .bound) i false ≡ false → record { table = boundTo r i address; hijack = false } ≡ usedBy r address f
     used-first b = sym (ap (λ (x : Found). usedBy r address x) a ∙ cond-no _ _ b)
 
-    -- a slot of 16 or more changes nothing
-    pub used-past : length (r .bound) ≡ 16 → length (r .«bound_src_mac») ≡ 16 → 16 ≤ i → record { table = r; hijack = false } ≡ usedBy r address f
-    unfolding boundTo
-    used-past l m h =
-        (λ k. record {
-          table = record {
-            «cb_ref» = r .«cb_ref»;
-            «is_goose» = r .«is_goose»;
-            «owner_client_id» = r .«owner_client_id»;
-            bound = sym (set-out (r .bound) i true (omega arith)) k;
-            «bound_src_mac» = sym (set-out (r .«bound_src_mac») i address (omega arith)) k;
-            active = r .active;
-          };
-          hijack = false;
-        })
-        ∙ used-first (List·getD-eq-default (r .bound) false {n = i} (omega arith))
+-- ---- the use by a frame, from the name as it is kept
+
+module _ (r : CbReservations) (octets : List ℕ) (len : ℕ) (isGoose : Bool) (address : ℕ) where
+  pub kept-empty : len ≡ 0 → record { table = r; hijack = false } ≡ cbKeptChecked r octets len isGoose address
+  unfolding cbKeptChecked
+  kept-empty z = sym (cond-yes _ _ (eq-eqb len 0 z))
+
+  pub kept-found :
+      {f : Found} → (len ≡ 0 → ⊥)
+      → f ≡ first (reservesAt (r .«cb_ref» .octets) (r .«cb_ref» .lens) (r .«is_goose») (r .active) octets len isGoose)
+      → usedBy r address f ≡ cbKeptChecked r octets len isGoose address
+  unfolding cbKeptChecked
+  kept-found z e = ap (λ (x : Found). usedBy r address x) e ∙ sym (cond-no _ _ (ne-eqb len 0 z))
+
+-- a name is kept as its octets, padded, and its length
+pub kept-used :
+    (r : CbReservations) (name : List ℕ) (isGoose : Bool) (address : ℕ) {octets : List ℕ} {len : ℕ}
+    → octets ≡ padded name (length name) → len ≡ length name → cbKeptChecked r octets len isGoose address ≡ cbChecked r name isGoose address
+unfolding cbKeptChecked cbChecked reservationOf
+kept-used r name isGoose address e l = rw (e, l)

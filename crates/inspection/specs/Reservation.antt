@@ -133,3 +133,23 @@ noReservations =
       «bound_src_mac» = replicate 16 0;
       active = replicate 16 false;
     }
+
+-- ---- the use of a control block, for the code
+
+-- a table of these columns
+abbrev pub cbTableOf : List ℕ → List ℕ → List Bool → List ℕ → List Bool → List ℕ → List Bool → CbReservations
+cbTableOf octets lens kinds owners bound addresses active =
+    record {
+      «cb_ref» = record { octets = octets; lens = lens };
+      «is_goose» = kinds;
+      «owner_client_id» = owners;
+      bound = bound;
+      «bound_src_mac» = addresses;
+      active = active;
+    }
+
+-- the same use from the name as it is kept: 64 octets, zeros behind its end, and its length
+unfoldable pub cbKeptChecked : CbReservations → List ℕ → ℕ → Bool → ℕ → CbChecked
+cbKeptChecked r octets len isGoose address =
+    cond (eqb len 0) (record { table = r; hijack = false })
+    (usedBy r address (first (reservesAt (r .«cb_ref» .octets) (r .«cb_ref» .lens) (r .«is_goose») (r .active) octets len isGoose)))

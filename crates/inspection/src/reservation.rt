@@ -1,10 +1,12 @@
 // Reservations of control blocks, carried over from industrial/iec61850-monitor/src/lib.rs of craton-shield a31d888527
 // (Apache-2.0) and changed: a column for each field; no last use, which nothing reads.
+ghost use Prim.Native.Nat.{ℕ};
 ghost use mathlib.Core.Path.{_≡_};
+ghost use mathlib.Core.List.{List};
 ghost use Rattle.records.specs.Ageing.{firstFree};
 ghost use Rattle.records.specs.Name.{nameOf};
 ghost use Rattle.records.specs.Search.{first, hasNumber};
-ghost use Rattle.inspection.specs.Reservation.{sameKind, reservesAt, ownedAt, placeOr, reserved, freedBelow, released, usedBy, cbChecked, noReservations};
+ghost use Rattle.inspection.specs.Reservation.{sameKind, reservesAt, ownedAt, placeOr, reserved, freedBelow, released, cbChecked, cbTableOf, cbKeptChecked, noReservations};
 use records::ageing::first_free;
 use records::name::Names;
 use records::name::padded;
@@ -243,39 +245,39 @@ pub fn release_cb(
     }
 }
 
-// The first address to use the reservation at a place is bound, another is a hijack; a place of 16 or more changes nothing.
-fn used_by(t: CbReservations, place: Found, src_mac: u64) -> CbChecked
-    ensures { λ r. ⌜ r ≡ usedBy t «src_mac» place ⌝ }
+// The use of a control block by a frame, in the columns of the reservations: the first address to use one is bound, another is a
+// hijack. An empty name is never looked up. The name is 64 octets, zeros behind its end.
+pub fn cb_hijack_check_in<'a>(
+    octets: &'a [u8; 1024],
+    lens: &'a [u8; 16],
+    kinds: &'a [bool; 16],
+    active: &'a [bool; 16],
+    bound: &'a mut [bool; 16],
+    bound_src_mac: &'a mut [u64; 16],
+    cb_ref: &'a [u8; 64],
+    cb_ref_len: u8,
+    is_goose: bool,
+    src_mac: u64,
+) -> bool
+    ensures { λ r.
+        ⌜ ((owners : List ℕ) → record { table = cbTableOf (now (octets .entry)) (now (lens .entry)) (now (kinds .entry)) owners (now (bound .exit)) (now («bound_src_mac» .exit)) (now (active .entry)); hijack = r } ≡ cbKeptChecked (cbTableOf (now (octets .entry)) (now (lens .entry)) (now (kinds .entry)) owners (now (bound .entry)) (now («bound_src_mac» .entry)) (now (active .entry))) (now («cb_ref» .entry)) «cb_ref_len» «is_goose» «src_mac») ⌝ }
 {
-    let mut out = t;
+    if cb_ref_len == 0 {
+        return false;
+    }
+    let place = find_reservation(octets, lens, kinds, active, cb_ref, cb_ref_len, is_goose);
     let Found::At(i) = place else {
-        return CbChecked {
-            table: out,
-            hijack: false,
-        };
+        return false;
     };
-    if i >= 16 {
-        return CbChecked {
-            table: out,
-            hijack: false,
-        };
+    if bound[i] {
+        return bound_src_mac[i] != src_mac;
     }
-    if out.bound[i] {
-        let hijack = out.bound_src_mac[i] != src_mac;
-        return CbChecked {
-            table: out,
-            hijack: hijack,
-        };
-    }
-    out.bound[i] = true;
-    out.bound_src_mac[i] = src_mac;
-    CbChecked {
-        table: out,
-        hijack: false,
-    }
+    bound[i] = true;
+    bound_src_mac[i] = src_mac;
+    false
 }
 
-// The use of a control block by a frame; an empty name is never looked up.
+// The reservations after a frame's use of its control block, and whether this is bound to another address.
 pub fn cb_hijack_check(
     t: CbReservations,
     cb_ref: [u8; 64],
@@ -286,21 +288,26 @@ pub fn cb_hijack_check(
     ensures { λ r. ⌜ r ≡ cbChecked t (nameOf «cb_ref» «cb_ref_len») «is_goose» «src_mac» ⌝ }
 {
     let len = valid_len(cb_ref_len);
-    if len == 0 {
-        return CbChecked {
-            table: t,
-            hijack: false,
-        };
-    }
     let name = padded(&cb_ref, len);
-    let place = find_reservation(
+    let mut bound = t.bound;
+    let mut bound_src_mac = t.bound_src_mac;
+    let hijack = cb_hijack_check_in(
         &t.cb_ref.octets,
         &t.cb_ref.lens,
         &t.is_goose,
         &t.active,
+        &mut bound,
+        &mut bound_src_mac,
         &name,
         len,
         is_goose,
+        src_mac,
     );
-    used_by(t, place, src_mac)
+    let mut out = t;
+    out.bound = bound;
+    out.bound_src_mac = bound_src_mac;
+    CbChecked {
+        table: out,
+        hijack: hijack,
+    }
 }

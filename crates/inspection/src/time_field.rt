@@ -7,6 +7,7 @@ use records::ageing::Ageing;
 use records::ageing::EqualAges;
 use records::ageing::next_tick;
 use records::ageing::slot_for;
+use records::ageing::use_slot;
 use records::search::Found;
 use records::search::find_number;
 
@@ -110,7 +111,47 @@ pub fn time_plan<'a>(
     }
 }
 
-// The clocks after a frame, and whether its pair goes back or too far ahead. The pair (0, 0) is neither checked nor kept.
+// Keeps a frame's pair in the columns of the clocks, and answers whether it goes back or too far ahead. The pair (0, 0) is neither
+// checked nor kept.
+pub fn check_time_field_in<'a>(
+    src_macs: &'a mut [u64; 16],
+    last_t_seconds: &'a mut [u32; 16],
+    last_t_fraction: &'a mut [u32; 16],
+    active: &'a mut [bool; 16],
+    last_used: &'a mut [u32; 16],
+    tick: &'a mut u32,
+    src_mac: u64,
+    t_secs: u32,
+    t_frac: u32,
+    max_forward_jump_s: u32,
+) -> bool
+    ensures { λ r.
+        ⌜ record { table = clockTableOf (now («src_macs» .exit)) (now («last_t_seconds» .exit)) (now («last_t_fraction» .exit)) (now (active .exit)) (now («last_used» .exit)) (now (tick .exit)); alert = r } ≡ timeChecked (clockTableOf (now («src_macs» .entry)) (now («last_t_seconds» .entry)) (now («last_t_fraction» .entry)) (now (active .entry)) (now («last_used» .entry)) (now (tick .entry))) «max_forward_jump_s» «src_mac» («t_secs», «t_frac») ⌝ }
+{
+    if !has_clock(t_secs, t_frac) {
+        return false;
+    }
+    let plan = time_plan(
+        src_macs,
+        last_t_seconds,
+        last_t_fraction,
+        active,
+        last_used,
+        *tick,
+        max_forward_jump_s,
+        src_mac,
+        t_secs,
+        t_frac,
+    );
+    let slot = plan.slot;
+    src_macs[slot] = src_mac;
+    last_t_seconds[slot] = t_secs;
+    last_t_fraction[slot] = t_frac;
+    use_slot(active, last_used, tick, slot);
+    plan.alert
+}
+
+// The clocks after a frame, and whether its pair alerts.
 pub fn check_time_field(
     t: TimeTrackers,
     src_mac: u64,
@@ -120,32 +161,35 @@ pub fn check_time_field(
 ) -> TimeChecked
     ensures { λ r. ⌜ r ≡ timeChecked t «max_forward_jump_s» «src_mac» («t_secs», «t_frac») ⌝ }
 {
-    if !has_clock(t_secs, t_frac) {
-        return TimeChecked {
-            table: t,
-            alert: false,
-        };
-    }
-    let mut out = t;
-    let plan = time_plan(
-        &out.src_mac,
-        &out.last_t_seconds,
-        &out.last_t_fraction,
-        &out.ageing.active,
-        &out.ageing.last_used,
-        out.ageing.tick,
-        max_forward_jump_s,
+    let mut src_macs = t.src_mac;
+    let mut last_t_seconds = t.last_t_seconds;
+    let mut last_t_fraction = t.last_t_fraction;
+    let mut active = t.ageing.active;
+    let mut last_used = t.ageing.last_used;
+    let mut tick = t.ageing.tick;
+    let alert = check_time_field_in(
+        &mut src_macs,
+        &mut last_t_seconds,
+        &mut last_t_fraction,
+        &mut active,
+        &mut last_used,
+        &mut tick,
         src_mac,
         t_secs,
         t_frac,
+        max_forward_jump_s,
     );
-    let slot = plan.slot;
-    out.src_mac[slot] = src_mac;
-    out.last_t_seconds[slot] = t_secs;
-    out.last_t_fraction[slot] = t_frac;
-    out.ageing = out.ageing.used(slot);
     TimeChecked {
-        table: out,
-        alert: plan.alert,
+        table: TimeTrackers {
+            src_mac: src_macs,
+            last_t_seconds: last_t_seconds,
+            last_t_fraction: last_t_fraction,
+            ageing: Ageing {
+                active: active,
+                last_used: last_used,
+                tick: tick,
+            },
+        },
+        alert: alert,
     }
 }
