@@ -8,13 +8,14 @@ use borrow.Author.Tests.{lt-ltb, eq-eqb, ne-eqb}
 use lib.Dec.{eqb, ltb}
 use lib.ListN.{length, List·getD-eq-default}
 use Rattle.records.specs.declared.alert.AlertCode.{AlertCode}
-use Rattle.records.specs.declared.alert.AlertCode.the-variants.{RateExceeded, SvRateAnomaly}
+use Rattle.records.specs.declared.alert.AlertCode.the-variants.{RateExceeded, SvRateAnomaly, CbHijack}
 use Rattle.records.specs.declared.alert.AlertSeverity.{AlertSeverity}
-use Rattle.records.specs.declared.alert.AlertSeverity.the-variants.{Medium}
+use Rattle.records.specs.declared.alert.AlertSeverity.the-variants.{Medium, High}
 use Rattle.records.specs.declared.error.VsError.{VsError}
 use Rattle.records.specs.declared.frame.GooseFrame.{GooseFrame}
 use Rattle.records.specs.declared.frame.MmsFrame.{MmsFrame}
 use Rattle.records.specs.declared.frame.SvFrame.{SvFrame}
+use Rattle.records.specs.declared.result.AlertCounters.{AlertCounters}
 use Rattle.records.specs.declared.result.InspectResult.{InspectResult}
 use Rattle.records.specs.declared.result.Pushed.{Pushed}
 use Rattle.records.specs.declared.search.Found.{Found}
@@ -25,7 +26,7 @@ use Rattle.records.specs.Name.{validLen, nameOf, padded}
 use Rattle.records.specs.Result.{cleanResult, pushed}
 use Rattle.records.specs.Search.{isFound}
 use Rattle.records.specs.Service.{serviceNumber, isWrite}
-use Rattle.records.proofs.Booleans.{and-true, and-false, cond-yes, cond-no}
+use Rattle.records.proofs.Booleans.{and-true, and-false, answered, cond-yes, cond-no}
 use Rattle.records.proofs.NameLaws.{kept-len, kept-octets}
 use Rattle.wire.specs.declared.sv.Parsed.{Parsed}
 use Rattle.wire.specs.declared.sv.Parsed.the-variants.{Frame, Error}
@@ -36,13 +37,13 @@ use Rattle.inspection.specs.declared.mms_rule.MmsRules.{MmsRules}
 use Rattle.inspection.specs.declared.monitor.Iec61850Monitor.{Iec61850Monitor}
 use Rattle.inspection.specs.declared.monitor.Inspected.{Inspected}
 use Rattle.inspection.specs.declared.rate.RateChecked.{RateChecked}
-use Rattle.inspection.specs.declared.report.AfterChecks.{AfterChecks}
 use Rattle.inspection.specs.declared.report.CheckAlert.{CheckAlert}
+use Rattle.inspection.specs.declared.report.CheckAlerts.{CheckAlerts}
 use Rattle.inspection.specs.declared.report.CheckAlert.the-variants.{Nothing}
 use Rattle.inspection.specs.declared.reservation.CbChecked.{CbChecked}
 use Rattle.inspection.specs.declared.reservation.Reserved.{Reserved}
 use Rattle.inspection.specs.declared.rules.RuleCheck.{RuleCheck}
-use Rattle.inspection.specs.declared.rules.RuleCheck.the-variants.{Rate}
+use Rattle.inspection.specs.declared.rules.RuleCheck.the-variants.{Refused, Rate}
 use Rattle.inspection.specs.declared.sv_publisher.PublisherMatch.{PublisherMatch}
 use Rattle.inspection.specs.declared.sv_publisher.PublisherMatch.the-variants.{Fits}
 use Rattle.inspection.specs.declared.sv_seq.SvChecked.{SvChecked}
@@ -54,10 +55,10 @@ use Rattle.inspection.specs.GoosePublisher.{firstFitting, goosePublisher
 use Rattle.inspection.specs.GooseSeq.{controlBlock, gooseTimed, retxChecked, gooseChecked}
 use Rattle.inspection.specs.InspectGoose.{goosePair, streamFindings, gooseStream, gooseClock, gooseTimeField, gooseBound, gooseReservation}
 use Rattle.inspection.specs.InspectMms.{domainName, fullFindings, mmsReserved, mmsControl, mmsRated, mmsRate, mmsRule, mmsMask}
-use Rattle.inspection.specs.InspectSv.{svPair, rateFindings, countFindings, svCount, svClock, svTimeField, svRuleCheck, inspectSv, rawInspected, inspectRawSv, svBound, svReservation}
+use Rattle.inspection.specs.InspectSv.{svPair, rateFindings, countFindings, svCount, svClock, svTimeField, svRuleCheck, inspectSv, rawInspected, inspectRawSv, svBound, svReservation, svBinding}
 use Rattle.inspection.specs.Monitor.{withAlerts, withReservations, withRates, withClocks, withGooseStreams, withSvStreams}
 use Rattle.inspection.specs.Rate.{rateChecked}
-use Rattle.inspection.specs.Report.{Finding, Checked, refusal, notice, clockFindings, ended, withAllowed, reportedNext, reported, findingsOf, checkedOf}
+use Rattle.inspection.specs.Report.{Finding, Checked, refusal, notice, clockFindings, ended, permitted, withAllowed, reportedNext, reported, findingsOf, alertsOf, checkedOf}
 use Rattle.inspection.specs.Reservation.{reserved, released, cbChecked}
 use Rattle.inspection.specs.SvPublisher.{lastFitting, svPublisher}
 use Rattle.inspection.specs.SvSeq.{svKey, isReplay, svChecked}
@@ -85,21 +86,28 @@ module _ (source sourceNumber time : ℕ) where
   alertsAdded p a = foldl (reportedNext source sourceNumber time) p (findingsOf a)
 
   -- the alerts of the three answers, added to a clean result
-  pub three-reported :
-      (c : AfterChecks) {clean : InspectResult} {one two three : Pushed}
+  pub three-pushed :
+      (counters : AlertCounters) (a : CheckAlerts) {clean : InspectResult} {one two three : Pushed}
       → clean ≡ cleanResult source
-      → one ≡ alertsAdded (record { result = clean; counters = c .monitor .totals .alerts }) (c .first)
-      → two ≡ alertsAdded one (c .second)
-      → three ≡ alertsAdded two (c .third)
-      → record { monitor = withAlerts (c .monitor) (three .counters); result = three .result } ≡ reported source sourceNumber time (checkedOf c)
+      → one ≡ alertsAdded (record { result = clean; counters = counters }) (a .first)
+      → two ≡ alertsAdded one (a .second)
+      → three ≡ alertsAdded two (a .third)
+      → three ≡ foldl (reportedNext source sourceNumber time) (record { result = cleanResult source; counters = counters }) (alertsOf a)
+  three-pushed counters a e x y z =
+      let start : InspectResult → Pushed = λ r. record { result = r; counters = counters } in
+      let first = x ∙ ap (λ (r : InspectResult). alertsAdded (start r) (a .first)) e in
+      let second = y ∙ ap (λ (p : Pushed). alertsAdded p (a .second)) first in
+      let third = z ∙ ap (λ (p : Pushed). alertsAdded p (a .third)) second in
+      let one-by-one = foldl-append _ _ (findingsOf (a .first)) _ ∙ foldl-append _ _ (findingsOf (a .second)) (findingsOf (a .third)) in
+      third ∙ sym one-by-one
+
+  -- the result and the counters with these alerts are the report
+  pub pushed-reported :
+      (m : Iec61850Monitor) (findings : List Finding) {p : Pushed}
+      → p ≡ foldl (reportedNext source sourceNumber time) (record { result = cleanResult source; counters = m .totals .alerts }) findings
+      → record { monitor = withAlerts m (p .counters); result = p .result } ≡ reported source sourceNumber time (ended m findings)
   unfolding reported
-  three-reported c e a b d =
-      let start : InspectResult → Pushed = λ r. record { result = r; counters = c .monitor .totals .alerts } in
-      let first = a ∙ ap (λ (r : InspectResult). alertsAdded (start r) (c .first)) e in
-      let second = b ∙ ap (λ (p : Pushed). alertsAdded p (c .second)) first in
-      let third = d ∙ ap (λ (p : Pushed). alertsAdded p (c .third)) second in
-      let one-by-one = foldl-append _ _ (findingsOf (c .first)) _ ∙ foldl-append _ _ (findingsOf (c .second)) (findingsOf (c .third)) in
-      ap (λ (p : Pushed). record { monitor = withAlerts (c .monitor) (p .counters); result = p .result }) (third ∙ sym one-by-one)
+  pushed-reported m findings e = ap (λ (p : Pushed). record { monitor = withAlerts m (p .counters); result = p .result }) e
 
   -- a frame counted, then checked and reported
   pub counted-reported :
@@ -274,23 +282,30 @@ module _ (m : Iec61850Monitor) (f : SvFrame) where
       svRuleCheck (m .settings .«strict_mode») (m .rules .sv .count) (m .rules .sv .«expected_smp_rate»)
       (svPublisher (m .rules .sv) (addressOf (f .«src_mac»)) (svKey f))
 
-  -- so says the search by the padded svID and its length
-  pub sv-ruled :
-      length (f .svid) ≡ 64
-      → {n address : ℕ} {kept : List ℕ} {found : PublisherMatch} {answer : RuleCheck}
-      → n ≡ validLen (f .«svid_len»)
-      → kept ≡ padded (f .svid) n
-      → address ≡ addressOf (f .«src_mac»)
-      → found ≡ lastFitting (m .rules .sv .«src_mac») (m .rules .sv .svid .octets) (m .rules .sv .svid .lens) (m .rules .sv .count) address kept n
-      → answer ≡ svRuleCheck (m .settings .«strict_mode») (m .rules .sv .count) (m .rules .sv .«expected_smp_rate») found
-      → answer ≡ svRuled
-  unfolding svPublisher
-  sv-ruled size l k a e r =
-      let p = m .rules .sv in
-      let octets = kept-octets (f .svid) (f .«svid_len») size l k in
-      let len = kept-len (f .svid) (f .«svid_len») size l k in
-      let publisher = e ∙ (λ i. lastFitting (p .«src_mac») (p .svid .octets) (p .svid .lens) (p .count) (a i) (octets i) (len i)) in
-      r ∙ ap (svRuleCheck (m .settings .«strict_mode») (p .count) (p .«expected_smp_rate»)) publisher
+  -- so says the search by the padded svID and its length, and checking ends or goes on
+  module _
+      (size : length (f .svid) ≡ 64) {n address : ℕ} {kept : List ℕ} {found : PublisherMatch} {answer : RuleCheck}
+      (l : n ≡ validLen (f .«svid_len»)) (k : kept ≡ padded (f .svid) n) (a : address ≡ addressOf (f .«src_mac»))
+      (e : found ≡ lastFitting (m .rules .sv .«src_mac») (m .rules .sv .svid .octets) (m .rules .sv .svid .lens) (m .rules .sv .count) address kept n)
+      (r : answer ≡ svRuleCheck (m .settings .«strict_mode») (m .rules .sv .count) (m .rules .sv .«expected_smp_rate») found) where
+    sv-ruled : answer ≡ svRuled
+    unfolding svPublisher
+    sv-ruled =
+        let p = m .rules .sv in
+        let octets = kept-octets (f .svid) (f .«svid_len») size l k in
+        let len = kept-len (f .svid) (f .«svid_len») size l k in
+        let publisher = e ∙ (λ i. lastFitting (p .«src_mac») (p .svid .octets) (p .svid .lens) (p .count) (a i) (octets i) (len i)) in
+        r ∙ ap (svRuleCheck (m .settings .«strict_mode») (p .count) (p .«expected_smp_rate»)) publisher
+
+    pub sv-refused :
+        {severity : AlertSeverity} {code : AlertCode} {alerts : List Finding}
+        → answer ≡ Refused severity code → alerts ≡ refusal severity code ∷ [] → ended m alerts ≡ svBinding m f
+    unfolding svBinding
+    sv-refused g h = ap (ended m) h ∙ ap (permitted m (svReservation m f)) (answered g sv-ruled)
+
+    pub sv-permitted : {rate : ℕ} → answer ≡ Rate rate → svReservation m f rate ≡ svBinding m f
+    unfolding svBinding
+    sv-permitted g = ap (permitted m (svReservation m f)) (answered g sv-ruled)
 
   module _ (rate : ℕ) {address : ℕ} (e : address ≡ addressOf (f .«src_mac»)) where
     -- the reservation of the data set, looked up for the address
@@ -300,6 +315,16 @@ module _ (m : Iec61850Monitor) (f : SvFrame) where
         → svBound m f rate used ≡ svReservation m f rate
     unfolding svReservation
     sv-used u = ap (svBound m f rate) (u ∙ ap (cbChecked (m .«cb_reservations») (nameOf (f .«dataset_ref») (f .«dataset_ref_len»)) false) e)
+
+    -- the look-up ends the checking, or goes on
+    module _ {used : CbChecked} (u : used ≡ cbChecked (m .«cb_reservations») (nameOf (f .«dataset_ref») (f .«dataset_ref_len»)) false address) where
+      pub sv-hijacked :
+          {alerts : List Finding} → used .hijack ≡ true → alerts ≡ refusal High CbHijack ∷ []
+          → ended (withReservations m (used .table)) alerts ≡ svReservation m f rate
+      sv-hijacked h a = ap (ended (withReservations m (used .table))) a ∙ sym (cond-yes _ _ h) ∙ sv-used u
+
+      pub sv-not-hijacked : used .hijack ≡ false → svTimeField (withReservations m (used .table)) f rate ≡ svReservation m f rate
+      sv-not-hijacked h = sym (cond-no _ _ h) ∙ sv-used u
 
     pub sv-time-field-checked :
         (first second third : CheckAlert) {clock : TimeChecked} {count : SvChecked} {replay : Bool}

@@ -16,7 +16,12 @@ use Rattle.wire.specs.Sv.{svFrame}
 use Rattle.inspection.specs.declared.monitor.Iec61850Monitor.{Iec61850Monitor}
 use Rattle.inspection.specs.declared.monitor.Inspected.{Inspected}
 use Rattle.inspection.specs.declared.monitor.RawInspected.{RawInspected}
+use Rattle.inspection.specs.declared.settings.Settings.{Settings}
+use Rattle.inspection.specs.declared.reservation.CbReservations.{CbReservations}
 use Rattle.inspection.specs.declared.reservation.CbChecked.{CbChecked}
+use Rattle.inspection.specs.declared.sv_publisher.SvPublishers.{SvPublishers}
+use Rattle.inspection.specs.declared.sv_seq.SvSeqTable.{SvSeqTable}
+use Rattle.inspection.specs.declared.time_field.TimeTrackers.{TimeTrackers}
 use Rattle.inspection.specs.declared.rules.RuleCheck.{RuleCheck}
 use Rattle.inspection.specs.declared.rules.RuleCheck.the-variants.{Refused, Rate}
 use Rattle.inspection.specs.declared.sv_publisher.PublisherMatch.{PublisherMatch}
@@ -103,3 +108,19 @@ rawInspected m (Error e) f = record { answer = Error e; monitor = m; result = cl
 -- the monitor after a raw frame of these octets at a time, and the result
 unfoldable pub inspectRawSv : Iec61850Monitor → List ℕ → ℕ → RawInspected
 inspectRawSv m octets time = rawInspected m (svFrame octets time .answer) (svFrame octets time .frame)
+
+-- ---- the checks over the columns of a monitor, for the code
+
+-- a monitor with these parts in place of its own: what an SV inspection reads and changes
+abbrev pub withSvParts : Iec61850Monitor → Settings → SvPublishers → CbReservations → TimeTrackers → SvSeqTable → Iec61850Monitor
+withSvParts m settings publishers reservations clocks streams =
+    record {
+      settings = settings;
+      rules = record { mms = m .rules .mms; goose = m .rules .goose; sv = publishers };
+      «rate_buckets» = m .«rate_buckets»;
+      «goose_seq» = m .«goose_seq»;
+      «sv_seq» = streams;
+      «time_trackers» = clocks;
+      «cb_reservations» = reservations;
+      totals = m .totals;
+    }

@@ -2,11 +2,13 @@
 // industrial/iec61850-monitor/src/lib.rs of craton-shield a31d888527 (Apache-2.0) and changed: alerts are added once, at the end.
 ghost use mathlib.Core.Path.{_≡_};
 ghost use mathlib.Core.List.{[], _∷_, foldl};
-ghost use Rattle.inspection.specs.Report.{refusal, clockFindings, ended, findingsOf, checkedOf, reportedNext, reported};
+ghost use Rattle.records.specs.Result.{cleanResult};
+ghost use Rattle.inspection.specs.Report.{refusal, clockFindings, ended, findingsOf, checkedOf, reportedNext, reported, alertsOf};
 use crate::monitor::Iec61850Monitor;
 use crate::monitor::Inspected;
 use records::alert::AlertCode;
 use records::alert::AlertSeverity;
+use records::result::AlertCounters;
 use records::result::InspectResult;
 use records::result::Pushed;
 
@@ -17,7 +19,14 @@ pub enum CheckAlert {
     Notice(AlertSeverity, AlertCode),
 }
 
-// The monitor after the checks of an inspection, and what they found: no inspection has more than three alerts.
+// What the checks of an inspection found, in their order: no inspection has more than three alerts.
+pub struct CheckAlerts {
+    pub first: CheckAlert,
+    pub second: CheckAlert,
+    pub third: CheckAlert,
+}
+
+// The monitor after the checks of an inspection, and what they found.
 pub struct AfterChecks {
     pub monitor: Iec61850Monitor,
     pub first: CheckAlert,
@@ -31,6 +40,17 @@ pub fn ended(m: Iec61850Monitor, severity: AlertSeverity, code: AlertCode) -> Af
 {
     AfterChecks {
         monitor: m,
+        first: CheckAlert::Refusal(severity, code),
+        second: CheckAlert::Nothing,
+        third: CheckAlert::Nothing,
+    }
+}
+
+// One alert, which refuses the frame and ends the checking.
+pub fn refused(severity: AlertSeverity, code: AlertCode) -> CheckAlerts
+    ensures { λ r. ⌜ alertsOf r ≡ refusal severity code ∷ [] ⌝ }
+{
+    CheckAlerts {
         first: CheckAlert::Refusal(severity, code),
         second: CheckAlert::Nothing,
         third: CheckAlert::Nothing,
@@ -66,28 +86,49 @@ fn push_alert(p: Pushed, alert: CheckAlert, source_type: u8, source_id: u32, ts_
     }
 }
 
-// The result of an inspection, and the monitor with the alerts counted.
-pub fn report(c: AfterChecks, source_type: u8, source_id: u32, ts_us: u64) -> Inspected
-    ensures { λ r. ⌜ r ≡ reported «source_type» «source_id» «ts_us» (checkedOf c) ⌝ }
+// The result that reports what the checks found, and the counters after its alerts.
+pub fn push_alerts(
+    counters: AlertCounters,
+    alerts: CheckAlerts,
+    source_type: u8,
+    source_id: u32,
+    ts_us: u64,
+) -> Pushed
+    ensures { λ r. ⌜ r ≡ foldl (reportedNext «source_type» «source_id» «ts_us») (record { result = cleanResult «source_type»; counters = counters }) (alertsOf alerts) ⌝ }
 {
     let clean = InspectResult::clean(source_type);
-    let mut out = c.monitor;
-    let mut totals = out.totals;
-    let counters = totals.alerts;
     let none = Pushed {
         result: clean,
         counters: counters,
     };
-    let first = c.first;
+    let first = alerts.first;
     let one = push_alert(none, first, source_type, source_id, ts_us);
-    let second = c.second;
+    let second = alerts.second;
     let two = push_alert(one, second, source_type, source_id, ts_us);
+    let third = alerts.third;
+    push_alert(two, third, source_type, source_id, ts_us)
+}
+
+// The result of an inspection, and the monitor with the alerts counted.
+pub fn report(c: AfterChecks, source_type: u8, source_id: u32, ts_us: u64) -> Inspected
+    ensures { λ r. ⌜ r ≡ reported «source_type» «source_id» «ts_us» (checkedOf c) ⌝ }
+{
+    let first = c.first;
+    let second = c.second;
     let third = c.third;
-    let three = push_alert(two, third, source_type, source_id, ts_us);
-    let counted = three.counters;
+    let alerts = CheckAlerts {
+        first: first,
+        second: second,
+        third: third,
+    };
+    let mut out = c.monitor;
+    let mut totals = out.totals;
+    let counters = totals.alerts;
+    let pushed = push_alerts(counters, alerts, source_type, source_id, ts_us);
+    let counted = pushed.counters;
     totals.alerts = counted;
     out.totals = totals;
-    let result = three.result;
+    let result = pushed.result;
     Inspected {
         monitor: out,
         result: result,
