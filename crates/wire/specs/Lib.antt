@@ -3,3 +3,4 @@ pub mod Element
 pub mod Header
 pub mod Sv
 pub mod Points
+pub mod SvRecord

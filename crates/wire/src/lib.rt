@@ -4,3 +4,4 @@ pub mod header;
 pub mod number;
 pub mod reader;
 pub mod sv;
+pub mod sv_record;
