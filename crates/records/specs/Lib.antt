@@ -15,3 +15,4 @@ pub mod Remembered
 pub mod Table
 pub mod Decide
 pub mod Points
+pub mod Verdict

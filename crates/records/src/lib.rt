@@ -11,3 +11,4 @@ pub mod result;
 pub mod schedule;
 pub mod search;
 pub mod service;
+pub mod verdict;
