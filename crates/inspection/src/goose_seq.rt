@@ -9,6 +9,7 @@ use records::ageing::Ageing;
 use records::ageing::EqualAges;
 use records::ageing::next_tick;
 use records::ageing::slot_for;
+use records::ageing::use_slot;
 use records::schedule::RetxSchedule;
 use records::search::Found;
 
@@ -208,6 +209,50 @@ pub fn goose_plan<'a>(
     GoosePlan::new(slot, false, st_num, sq_num, now_us)
 }
 
+// Stores a frame in the columns of the streams, and answers whether it is a replay.
+pub fn check_goose_seq_in<'a>(
+    src_macs: &'a mut [u64; 16],
+    hashes: &'a mut [u32; 16],
+    last_st_num: &'a mut [u32; 16],
+    last_sq_num: &'a mut [u32; 16],
+    last_seen_us: &'a mut [u64; 16],
+    active: &'a mut [bool; 16],
+    last_used: &'a mut [u32; 16],
+    tick: &'a mut u32,
+    src_mac: u64,
+    go_cb_ref_hash: u32,
+    st_num: u32,
+    sq_num: u32,
+    now_us: u64,
+) -> bool
+    ensures { λ r.
+        ⌜ record { table = gooseTableOf (now («src_macs» .exit)) (now (hashes .exit)) (now («last_st_num» .exit)) (now («last_sq_num» .exit)) (now («last_seen_us» .exit)) (now (active .exit)) (now («last_used» .exit)) (now (tick .exit)); replay = r } ≡ gooseChecked (gooseTableOf (now («src_macs» .entry)) (now (hashes .entry)) (now («last_st_num» .entry)) (now («last_sq_num» .entry)) (now («last_seen_us» .entry)) (now (active .entry)) (now («last_used» .entry)) (now (tick .entry))) («src_mac», «go_cb_ref_hash») ((«st_num», «sq_num»), «now_us») ⌝ }
+{
+    let plan = goose_plan(
+        src_macs,
+        hashes,
+        last_st_num,
+        last_sq_num,
+        last_seen_us,
+        active,
+        last_used,
+        *tick,
+        src_mac,
+        go_cb_ref_hash,
+        st_num,
+        sq_num,
+        now_us,
+    );
+    let slot = plan.slot;
+    src_macs[slot] = src_mac;
+    hashes[slot] = go_cb_ref_hash;
+    last_st_num[slot] = plan.st_num;
+    last_sq_num[slot] = plan.sq_num;
+    last_seen_us[slot] = plan.seen_us;
+    use_slot(active, last_used, tick, slot);
+    plan.replay
+}
+
 // The streams after a frame of this key, numbers and time, and whether it is a replay.
 pub fn check_goose_seq(
     t: GooseSeqTable,
@@ -219,31 +264,42 @@ pub fn check_goose_seq(
 ) -> GooseChecked
     ensures { λ r. ⌜ r ≡ gooseChecked t («src_mac», «go_cb_ref_hash») ((«st_num», «sq_num»), «now_us») ⌝ }
 {
-    let mut out = t;
-    let plan = goose_plan(
-        &out.src_mac,
-        &out.go_cb_ref_hash,
-        &out.last_st_num,
-        &out.last_sq_num,
-        &out.last_seen_us,
-        &out.ageing.active,
-        &out.ageing.last_used,
-        out.ageing.tick,
+    let mut src_macs = t.src_mac;
+    let mut hashes = t.go_cb_ref_hash;
+    let mut last_st_num = t.last_st_num;
+    let mut last_sq_num = t.last_sq_num;
+    let mut last_seen_us = t.last_seen_us;
+    let mut active = t.ageing.active;
+    let mut last_used = t.ageing.last_used;
+    let mut tick = t.ageing.tick;
+    let replay = check_goose_seq_in(
+        &mut src_macs,
+        &mut hashes,
+        &mut last_st_num,
+        &mut last_sq_num,
+        &mut last_seen_us,
+        &mut active,
+        &mut last_used,
+        &mut tick,
         src_mac,
         go_cb_ref_hash,
         st_num,
         sq_num,
         now_us,
     );
-    let slot = plan.slot;
-    out.src_mac[slot] = src_mac;
-    out.go_cb_ref_hash[slot] = go_cb_ref_hash;
-    out.last_st_num[slot] = plan.st_num;
-    out.last_sq_num[slot] = plan.sq_num;
-    out.last_seen_us[slot] = plan.seen_us;
-    out.ageing = out.ageing.used(slot);
     GooseChecked {
-        table: out,
-        replay: plan.replay,
+        table: GooseSeqTable {
+            src_mac: src_macs,
+            go_cb_ref_hash: hashes,
+            last_st_num: last_st_num,
+            last_sq_num: last_sq_num,
+            last_seen_us: last_seen_us,
+            ageing: Ageing {
+                active: active,
+                last_used: last_used,
+                tick: tick,
+            },
+        },
+        replay: replay,
     }
 }
