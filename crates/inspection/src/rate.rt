@@ -6,6 +6,7 @@ use records::ageing::Ageing;
 use records::ageing::EqualAges;
 use records::ageing::next_tick;
 use records::ageing::slot_for;
+use records::ageing::use_slot;
 use records::bucket::RateBucket;
 use records::search::Found;
 use records::search::find_number;
@@ -89,32 +90,80 @@ pub fn rate_plan<'a>(
     }
 }
 
-// The buckets after a request, and whether it is within its rate. A new key's request is; an existing bucket keeps its capacity.
-pub fn rate_check(t: RateBuckets, key: u32, max_rate: u16, now_us: u64) -> RateChecked
-    ensures { λ r. ⌜ r ≡ rateChecked t key «max_rate» «now_us» ⌝ }
+// Takes a request into the columns of the buckets, and answers whether it is within its rate. A new key's request is; an
+// existing bucket keeps its capacity.
+pub fn rate_check_in<'a>(
+    keys: &'a mut [u64; 16],
+    tokens: &'a mut [u16; 16],
+    capacity: &'a mut [u16; 16],
+    last_refill_us: &'a mut [u64; 16],
+    active: &'a mut [bool; 16],
+    last_used: &'a mut [u32; 16],
+    tick: &'a mut u32,
+    key: u32,
+    max_rate: u16,
+    now_us: u64,
+) -> bool
+    ensures { λ r.
+        ⌜ record { table = bucketTableOf (now (keys .exit)) (now (tokens .exit)) (now (capacity .exit)) (now («last_refill_us» .exit)) (now (active .exit)) (now («last_used» .exit)) (now (tick .exit)); allowed = r } ≡ rateChecked (bucketTableOf (now (keys .entry)) (now (tokens .entry)) (now (capacity .entry)) (now («last_refill_us» .entry)) (now (active .entry)) (now («last_used» .entry)) (now (tick .entry))) key «max_rate» «now_us» ⌝ }
 {
     let number = key as u64;
-    let mut out = t;
     let plan = rate_plan(
-        &out.key,
-        &out.tokens,
-        &out.capacity,
-        &out.last_refill_us,
-        &out.ageing.active,
-        &out.ageing.last_used,
-        out.ageing.tick,
+        keys,
+        tokens,
+        capacity,
+        last_refill_us,
+        active,
+        last_used,
+        *tick,
         number,
         max_rate,
         now_us,
     );
     let slot = plan.slot;
-    out.key[slot] = number;
-    out.tokens[slot] = plan.bucket.tokens;
-    out.capacity[slot] = plan.bucket.capacity;
-    out.last_refill_us[slot] = plan.bucket.last_refill_us;
-    out.ageing = out.ageing.used(slot);
+    keys[slot] = number;
+    tokens[slot] = plan.bucket.tokens;
+    capacity[slot] = plan.bucket.capacity;
+    last_refill_us[slot] = plan.bucket.last_refill_us;
+    use_slot(active, last_used, tick, slot);
+    plan.allowed
+}
+
+// The buckets after a request, and whether it is within its rate.
+pub fn rate_check(t: RateBuckets, key: u32, max_rate: u16, now_us: u64) -> RateChecked
+    ensures { λ r. ⌜ r ≡ rateChecked t key «max_rate» «now_us» ⌝ }
+{
+    let mut keys = t.key;
+    let mut tokens = t.tokens;
+    let mut capacity = t.capacity;
+    let mut last_refill_us = t.last_refill_us;
+    let mut active = t.ageing.active;
+    let mut last_used = t.ageing.last_used;
+    let mut tick = t.ageing.tick;
+    let allowed = rate_check_in(
+        &mut keys,
+        &mut tokens,
+        &mut capacity,
+        &mut last_refill_us,
+        &mut active,
+        &mut last_used,
+        &mut tick,
+        key,
+        max_rate,
+        now_us,
+    );
     RateChecked {
-        table: out,
-        allowed: plan.allowed,
+        table: RateBuckets {
+            key: keys,
+            tokens: tokens,
+            capacity: capacity,
+            last_refill_us: last_refill_us,
+            ageing: Ageing {
+                active: active,
+                last_used: last_used,
+                tick: tick,
+            },
+        },
+        allowed: allowed,
     }
 }
