@@ -4,22 +4,19 @@ use mathlib.Core.Bool.{Bool, true, false, _&&_, not}
 use mathlib.Core.List.{List}
 use mathlib.Core.Path.{_≡_, refl, ap, sym, _∙_}
 use native.Mathlib.Numerals.{add-one}
-use native.Mathlib.Omega.{arith}
 use borrow.Author.Tests.{le-ltb, eq-eqb, ne-eqb}
 use lib.Dec.{eqb}
-use lib.ListN.{length, getD, set, List·getD-eq-default}
-use lib.Seq.{set-out}
+use lib.ListN.{length, getD, set}
 use Rattle.records.specs.declared.name.Names.{Names}
 use Rattle.records.specs.declared.search.Found.{Found}
 use Rattle.records.specs.declared.search.Found.the-variants.{At, Nothing}
 use Rattle.records.specs.Ageing.{firstFree}
-use Rattle.records.specs.Name.{validLen, nameOf, padded, sameName, sameOctets, nameStored}
+use Rattle.records.specs.Name.{padded, sameName, sameOctets, nameStored}
 use Rattle.records.specs.Search.{first}
 use Rattle.records.proofs.Booleans.{and-false, cond-yes, cond-no, answered}
-use Rattle.records.proofs.NameLaws.{kept-len, kept-octets}
 use Rattle.records.proofs.TableLaws.{found-below}
 use Rattle.inspection.specs.declared.reservation.CbReservations.{CbReservations}
-use Rattle.inspection.specs.Reservation.{sameKind, reservesAt, reserves, ownedBy, reservationOf, takenAt, placeOr, reservedAt, reserved, freedBelow, withActive, freedAt, released, boundTo, usedBy, cbChecked, cbKeptChecked}
+use Rattle.inspection.specs.Reservation.{sameKind, reservesAt, reserves, ownedAt, ownedBy, reservationOf, takenAt, placeOr, reservedAt, reserved, freedBelow, withActive, freedAt, released, boundTo, usedBy, cbChecked, cbKeptChecked, cbKeptReservedAt, cbKeptReserved, cbKeptReleased}
 
 -- ---- the test of a slot
 
@@ -64,33 +61,20 @@ place-below test active e a = go (first test) (λ i. found-below test refl) (ans
     go (At j) b = b _
     go Nothing b = found-below _ refl
 
--- ---- the ways out of the three changes, the name that a frame states being kept as these octets and this length
+-- ---- the ways out of a SelectControl, and of a Cancel or Conclude, from the name as it is kept
 
-module _ (r : CbReservations) (octets : List ℕ) (stated : ℕ) (size : length octets ≡ 64) (isGoose : Bool) {name : List ℕ} {len : ℕ}
-    (n : len ≡ validLen stated) (p : name ≡ padded octets len) where
-  abbrev holds : ℕ → Bool
-  holds = reservesAt (r .«cb_ref» .octets) (r .«cb_ref» .lens) (r .«is_goose») (r .active) name len isGoose
+module _ (r : CbReservations) (octets : List ℕ) (len : ℕ) (isGoose : Bool) (client : ℕ) where
+  module _ {f : Found}
+      (e : f ≡ placeOr (first (reservesAt (r .«cb_ref» .octets) (r .«cb_ref» .lens) (r .«is_goose») (r .active) octets len isGoose)) (firstFree (r .active))) where
+    answer : {g : Found} → f ≡ g → cbKeptReservedAt r octets len isGoose client g ≡ cbKeptReserved r octets len isGoose client
+    unfolding cbKeptReserved
+    answer a = ap (λ (x : Found). cbKeptReservedAt r octets len isGoose client x) (sym a ∙ e)
 
-  same-holds : reserves r (nameOf octets stated) isGoose ≡ holds
-  same-holds = rw (← kept-octets octets stated size n p, ← kept-len octets stated size n p)
-
-  same-place : reservationOf r (nameOf octets stated) isGoose ≡ first holds
-  unfolding reservationOf
-  same-place = ap (λ (t : ℕ → Bool). first t) same-holds
-
-  -- SelectControl
-  module _ (client : ℕ) {f : Found} (e : f ≡ placeOr (first holds) (firstFree (r .active))) where
-    answer : reservedAt r (nameOf octets stated) isGoose client f ≡ reserved r (nameOf octets stated) isGoose client
-    unfolding reserved
-    answer =
-        ap (λ (x : Found). reservedAt r (nameOf octets stated) isGoose client x)
-        (e ∙ sym (ap (λ (x : Found). placeOr x (firstFree (r .active))) same-place))
-
-    pub reserved-full : f ≡ Nothing → record { table = r; taken = false } ≡ reserved r (nameOf octets stated) isGoose client
-    reserved-full a = sym (ap (λ (x : Found). reservedAt r (nameOf octets stated) isGoose client x) a) ∙ answer
+    pub reserved-full : f ≡ Nothing → record { table = r; taken = false } ≡ cbKeptReserved r octets len isGoose client
+    reserved-full a = answer a
 
     pub reserved-at :
-        {i : ℕ} {names : Names} → f ≡ At i → names ≡ nameStored (r .«cb_ref») i name len
+        {i : ℕ} {names : Names} → f ≡ At i → names ≡ nameStored (r .«cb_ref») i octets len
         → record {
           table = record {
             «cb_ref» = names;
@@ -102,13 +86,11 @@ module _ (r : CbReservations) (octets : List ℕ) (stated : ℕ) (size : length 
           };
           taken = true;
         }
-        ≡ reserved r (nameOf octets stated) isGoose client
-    unfolding takenAt
+        ≡ cbKeptReserved r octets len isGoose client
     reserved-at {i} a q =
-        let names = q ∙ (λ k. nameStored (r .«cb_ref») i (kept-octets octets stated size n p k) (kept-len octets stated size n p k)) in
         (λ k. record {
           table = record {
-            «cb_ref» = names k;
+            «cb_ref» = q k;
             «is_goose» = set (r .«is_goose») i isGoose;
             «owner_client_id» = set (r .«owner_client_id») i client;
             bound = set (r .bound) i false;
@@ -117,23 +99,35 @@ module _ (r : CbReservations) (octets : List ℕ) (stated : ℕ) (size : length 
           };
           taken = true;
         })
-        ∙ sym (ap (λ (x : Found). reservedAt r (nameOf octets stated) isGoose client x) a)
-        ∙ answer
+        ∙ answer a
 
-  -- Cancel or Conclude
   pub released-all :
-      (client : ℕ) {active : List Bool} → len ≡ 0 → active ≡ freedBelow (ownedBy r client) (r .active) 16
-      → withActive r active ≡ released r (nameOf octets stated) isGoose client
-  unfolding released
-  released-all client z a = (λ k. withActive r (a k)) ∙ sym (cond-yes _ _ (eq-eqb (length (nameOf octets stated)) 0 (answered (kept-len octets stated size n p) z)))
+      {active : List Bool} → len ≡ 0 → active ≡ freedBelow (ownedBy r client) (r .active) 16
+      → withActive r active ≡ cbKeptReleased r octets len isGoose client
+  unfolding cbKeptReleased
+  released-all z a = (λ k. withActive r (a k)) ∙ sym (cond-yes _ _ (eq-eqb len 0 z))
 
   pub released-found :
-      (client : ℕ) {f g : Found} → (len ≡ 0 → ⊥) → f ≡ first (λ i. holds i && ownedBy r client i) → f ≡ g
-      → freedAt r g ≡ released r (nameOf octets stated) isGoose client
-  unfolding released
-  released-found client z e a =
-      ap (λ (x : Found). freedAt r x) (sym a ∙ e ∙ sym (ap (λ (t : ℕ → Bool). first (λ i. t i && ownedBy r client i)) same-holds))
-      ∙ sym (cond-no _ _ (ne-eqb (length (nameOf octets stated)) 0 (λ q. z (kept-len octets stated size n p ∙ q))))
+      {f g : Found} → (len ≡ 0 → ⊥)
+      → f ≡ first (ownedAt (r .«cb_ref» .octets) (r .«cb_ref» .lens) (r .«is_goose») (r .«owner_client_id») (r .active) octets len isGoose client) → f ≡ g
+      → freedAt r g ≡ cbKeptReleased r octets len isGoose client
+  unfolding cbKeptReleased
+  released-found z e a = ap (λ (x : Found). freedAt r x) (sym a ∙ e) ∙ sym (cond-no _ _ (ne-eqb len 0 z))
+
+-- a name is kept as its octets, padded, and its length
+module _ (r : CbReservations) (name : List ℕ) (isGoose : Bool) (client : ℕ) {octets : List ℕ} {len : ℕ}
+    (e : octets ≡ padded name (length name)) (l : len ≡ length name) where
+  pub kept-reserved : cbKeptReserved r octets len isGoose client ≡ reserved r name isGoose client
+  unfolding cbKeptReserved reserved reservationOf takenAt
+  kept-reserved = rw (e, l) (go (placeOr (first (reserves r name isGoose)) (firstFree (r .active))))
+    where
+      go : (f : Found) → cbKeptReservedAt r (padded name (length name)) (length name) isGoose client f ≡ reservedAt r name isGoose client f
+      go (At i) = refl
+      go Nothing = refl
+
+  pub kept-released : cbKeptReleased r octets len isGoose client ≡ released r name isGoose client
+  unfolding cbKeptReleased released
+  kept-released = rw (e, l)
 
 -- ---- the use of a slot by an address
 

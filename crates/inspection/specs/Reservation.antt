@@ -7,7 +7,7 @@ use lib.ListN.{length, getD, set, replicate}
 use Rattle.records.specs.declared.search.Found.{Found}
 use Rattle.records.specs.declared.search.Found.the-variants.{At, Nothing}
 use Rattle.records.specs.Ageing.{firstFree}
-use Rattle.records.specs.Name.{padded, sameName, withName, noNames}
+use Rattle.records.specs.Name.{padded, sameName, nameStored, withName, noNames}
 use Rattle.records.specs.Search.{first, hasNumber}
 use Rattle.inspection.specs.declared.reservation.CbReservations.{CbReservations}
 use Rattle.inspection.specs.declared.reservation.Reserved.{Reserved}
@@ -134,7 +134,7 @@ noReservations =
       active = replicate 16 false;
     }
 
--- ---- the use of a control block, for the code
+-- ---- the changes of the table, for the code
 
 -- a table of these columns
 abbrev pub cbTableOf : List ℕ → List ℕ → List Bool → List ℕ → List Bool → List ℕ → List Bool → CbReservations
@@ -148,8 +148,37 @@ cbTableOf octets lens kinds owners bound addresses active =
       active = active;
     }
 
--- the same use from the name as it is kept: 64 octets, zeros behind its end, and its length
+-- the use of a control block, from the name as it is kept: 64 octets, zeros behind its end, and its length
 unfoldable pub cbKeptChecked : CbReservations → List ℕ → ℕ → Bool → ℕ → CbChecked
 cbKeptChecked r octets len isGoose address =
     cond (eqb len 0) (record { table = r; hijack = false })
     (usedBy r address (first (reservesAt (r .«cb_ref» .octets) (r .«cb_ref» .lens) (r .«is_goose») (r .active) octets len isGoose)))
+
+-- a SelectControl's slot taken, if there is one, from the name as it is kept
+abbrev pub cbKeptReservedAt : CbReservations → List ℕ → ℕ → Bool → ℕ → Found → Reserved
+cbKeptReservedAt r octets len isGoose client (At i) =
+    record {
+      table = record {
+        «cb_ref» = nameStored (r .«cb_ref») i octets len;
+        «is_goose» = set (r .«is_goose») i isGoose;
+        «owner_client_id» = set (r .«owner_client_id») i client;
+        bound = set (r .bound) i false;
+        «bound_src_mac» = set (r .«bound_src_mac») i 0;
+        active = set (r .active) i true;
+      };
+      taken = true;
+    }
+cbKeptReservedAt r octets len isGoose client Nothing = record { table = r; taken = false }
+
+-- a SelectControl
+unfoldable pub cbKeptReserved : CbReservations → List ℕ → ℕ → Bool → ℕ → Reserved
+cbKeptReserved r octets len isGoose client =
+    cbKeptReservedAt r octets len isGoose client
+    (placeOr (first (reservesAt (r .«cb_ref» .octets) (r .«cb_ref» .lens) (r .«is_goose») (r .active) octets len isGoose)) (firstFree (r .active)))
+
+-- a Cancel or Conclude
+unfoldable pub cbKeptReleased : CbReservations → List ℕ → ℕ → Bool → ℕ → CbReservations
+cbKeptReleased r octets len isGoose client =
+    cond (eqb len 0) (withActive r (freedBelow (ownedBy r client) (r .active) 16))
+    (freedAt r
+    (first (ownedAt (r .«cb_ref» .octets) (r .«cb_ref» .lens) (r .«is_goose») (r .«owner_client_id») (r .active) octets len isGoose client)))

@@ -2,15 +2,17 @@
 // (Apache-2.0) and changed: a column for each field; no last use, which nothing reads.
 ghost use Prim.Native.Nat.{ℕ};
 ghost use mathlib.Core.Path.{_≡_};
+ghost use mathlib.Core.Bool.{Bool};
 ghost use mathlib.Core.List.{List};
 ghost use Rattle.records.specs.Ageing.{firstFree};
 ghost use Rattle.records.specs.Name.{nameOf};
 ghost use Rattle.records.specs.Search.{first, hasNumber};
-ghost use Rattle.inspection.specs.Reservation.{sameKind, reservesAt, ownedAt, placeOr, reserved, freedBelow, released, cbChecked, cbTableOf, cbKeptChecked, noReservations};
+ghost use Rattle.inspection.specs.Reservation.{sameKind, reservesAt, ownedAt, placeOr, reserved, freedBelow, released, cbChecked, cbTableOf, cbKeptChecked, cbKeptReserved, cbKeptReleased, noReservations};
 use records::ageing::first_free;
 use records::name::Names;
 use records::name::padded;
 use records::name::same_name;
+use records::name::store_name;
 use records::name::valid_len;
 use records::search::Found;
 
@@ -167,7 +169,38 @@ fn free_of_client<'a>(active: &'a mut [bool; 16], owners: &'a [u32; 16], client_
     }
 }
 
-// SelectControl takes or takes over a name, the empty one too, and unbinds it; a full table is left as it is.
+// SelectControl, in the columns of the reservations, takes or takes over a name, the empty one too, and unbinds it; a full table
+// is left as it is. Answers whether there was a place. The name is 64 octets, zeros behind its end.
+pub fn reserve_cb_in<'a>(
+    octets: &'a mut [u8; 1024],
+    lens: &'a mut [u8; 16],
+    kinds: &'a mut [bool; 16],
+    owners: &'a mut [u32; 16],
+    bound: &'a mut [bool; 16],
+    bound_src_mac: &'a mut [u64; 16],
+    active: &'a mut [bool; 16],
+    cb_ref: &'a [u8; 64],
+    cb_ref_len: u8,
+    client_id: u32,
+    is_goose: bool,
+) -> bool
+    ensures { λ r.
+        ⌜ record { table = cbTableOf (now (octets .exit)) (now (lens .exit)) (now (kinds .exit)) (now (owners .exit)) (now (bound .exit)) (now («bound_src_mac» .exit)) (now (active .exit)); taken = r } ≡ cbKeptReserved (cbTableOf (now (octets .entry)) (now (lens .entry)) (now (kinds .entry)) (now (owners .entry)) (now (bound .entry)) (now («bound_src_mac» .entry)) (now (active .entry))) (now («cb_ref» .entry)) «cb_ref_len» «is_goose» «client_id» ⌝ }
+{
+    let place = place_for(octets, lens, kinds, active, cb_ref, cb_ref_len, is_goose);
+    let Found::At(i) = place else {
+        return false;
+    };
+    store_name(octets, lens, i, cb_ref, cb_ref_len);
+    kinds[i] = is_goose;
+    owners[i] = client_id;
+    bound[i] = false;
+    bound_src_mac[i] = 0;
+    active[i] = true;
+    true
+}
+
+// The reservations after a SelectControl, and whether there was a place.
 pub fn reserve_cb(
     t: CbReservations,
     cb_ref: [u8; 64],
@@ -179,35 +212,80 @@ pub fn reserve_cb(
 {
     let len = valid_len(cb_ref_len);
     let name = padded(&cb_ref, len);
-    let mut out = t;
-    let place = place_for(
-        &out.cb_ref.octets,
-        &out.cb_ref.lens,
-        &out.is_goose,
-        &out.active,
+    let mut octets = t.cb_ref.octets;
+    let mut lens = t.cb_ref.lens;
+    let mut kinds = t.is_goose;
+    let mut owners = t.owner_client_id;
+    let mut bound = t.bound;
+    let mut bound_src_mac = t.bound_src_mac;
+    let mut active = t.active;
+    let taken = reserve_cb_in(
+        &mut octets,
+        &mut lens,
+        &mut kinds,
+        &mut owners,
+        &mut bound,
+        &mut bound_src_mac,
+        &mut active,
         &name,
         len,
+        client_id,
         is_goose,
     );
-    let Found::At(i) = place else {
-        return Reserved {
-            table: out,
-            taken: false,
-        };
-    };
-    out.cb_ref = out.cb_ref.stored(i, &name, len);
-    out.is_goose[i] = is_goose;
-    out.owner_client_id[i] = client_id;
-    out.bound[i] = false;
-    out.bound_src_mac[i] = 0;
-    out.active[i] = true;
     Reserved {
-        table: out,
-        taken: true,
+        table: CbReservations {
+            cb_ref: Names {
+                octets: octets,
+                lens: lens,
+            },
+            is_goose: kinds,
+            owner_client_id: owners,
+            bound: bound,
+            bound_src_mac: bound_src_mac,
+            active: active,
+        },
+        taken: taken,
     }
 }
 
-// Cancel or Conclude frees a name of the same client, with an empty name all of that client's of both kinds.
+// Cancel or Conclude, in the columns of the reservations, frees a name of the same client, with an empty name all of that
+// client's of both kinds. The name is 64 octets, zeros behind its end.
+pub fn release_cb_in<'a>(
+    octets: &'a [u8; 1024],
+    lens: &'a [u8; 16],
+    kinds: &'a [bool; 16],
+    owners: &'a [u32; 16],
+    active: &'a mut [bool; 16],
+    cb_ref: &'a [u8; 64],
+    cb_ref_len: u8,
+    client_id: u32,
+    is_goose: bool,
+)
+    ensures { λ _.
+        ⌜ ((bound : List Bool) (addresses : List ℕ) → cbTableOf (now (octets .entry)) (now (lens .entry)) (now (kinds .entry)) (now (owners .entry)) bound addresses (now (active .exit)) ≡ cbKeptReleased (cbTableOf (now (octets .entry)) (now (lens .entry)) (now (kinds .entry)) (now (owners .entry)) bound addresses (now (active .entry))) (now («cb_ref» .entry)) «cb_ref_len» «is_goose» «client_id») ⌝ }
+{
+    if cb_ref_len == 0 {
+        free_of_client(active, owners, client_id);
+        return;
+    }
+    let place = find_owned(
+        octets,
+        lens,
+        kinds,
+        owners,
+        active,
+        cb_ref,
+        cb_ref_len,
+        is_goose,
+        client_id,
+    );
+    let Found::At(i) = place else {
+        return;
+    };
+    active[i] = false;
+}
+
+// The reservations after a Cancel or Conclude.
 pub fn release_cb(
     t: CbReservations,
     cb_ref: [u8; 64],
@@ -218,31 +296,22 @@ pub fn release_cb(
     ensures { λ r. ⌜ r ≡ released t (nameOf «cb_ref» «cb_ref_len») «is_goose» «client_id» ⌝ }
 {
     let len = valid_len(cb_ref_len);
-    let mut out = t;
-    if len == 0 {
-        let owners = out.owner_client_id;
-        free_of_client(&mut out.active, &owners, client_id);
-        return out;
-    }
     let name = padded(&cb_ref, len);
-    let place = find_owned(
-        &out.cb_ref.octets,
-        &out.cb_ref.lens,
-        &out.is_goose,
-        &out.owner_client_id,
-        &out.active,
+    let mut active = t.active;
+    release_cb_in(
+        &t.cb_ref.octets,
+        &t.cb_ref.lens,
+        &t.is_goose,
+        &t.owner_client_id,
+        &mut active,
         &name,
         len,
-        is_goose,
         client_id,
+        is_goose,
     );
-    match place {
-        Found::Nothing => out,
-        Found::At(i) => {
-            out.active[i] = false;
-            out
-        }
-    }
+    let mut out = t;
+    out.active = active;
+    out
 }
 
 // The use of a control block by a frame, in the columns of the reservations: the first address to use one is bound, another is a
