@@ -79,15 +79,14 @@ unfolding goosePlan gooseChecked
 plan-carried-out t key new e u = rw (u, e)
 
 -- the look-up reads neither ages nor tick
+abbrev pub withoutAges : GooseSeqTable → GooseSeqTable
+withoutAges t = gooseTableOf (t .«src_mac») (t .«go_cb_ref_hash») (t .«last_st_num») (t .«last_sq_num») (t .«last_seen_us») (t .ageing .active) [] 0
+
 pub retx-columns : (enforce : Bool) (schedule : RetxSchedule) (t : GooseSeqTable) (key : ℕ × ℕ) (new : (ℕ × ℕ) × ℕ)
-    → retxChecked enforce schedule (gooseTableOf (t .«src_mac») (t .«go_cb_ref_hash») (t .«last_st_num») (t .«last_sq_num») (t .«last_seen_us») (t .ageing .active) [] 0) key new
-    ≡ retxChecked enforce schedule t key new
+    → retxChecked enforce schedule (withoutAges t) key new ≡ retxChecked enforce schedule t key new
 unfolding retxChecked
 retx-columns enforce schedule t key new = go (slotOf gooseStreams t key)
   where
-    columns : GooseSeqTable
-    columns = gooseTableOf (t .«src_mac») (t .«go_cb_ref_hash») (t .«last_st_num») (t .«last_sq_num») (t .«last_seen_us») (t .ageing .active) [] 0
-
-    go : (f : Found) → retransmission enforce schedule (valueAt gooseStreams columns f) new ≡ retransmission enforce schedule (valueAt gooseStreams t f) new
+    go : (f : Found) → retransmission enforce schedule (valueAt gooseStreams (withoutAges t) f) new ≡ retransmission enforce schedule (valueAt gooseStreams t f) new
     go (At i) = refl
     go Nothing = refl

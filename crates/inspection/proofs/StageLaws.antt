@@ -8,7 +8,7 @@ use borrow.Author.Tests.{lt-ltb, eq-eqb, ne-eqb}
 use lib.Dec.{eqb, ltb}
 use lib.ListN.{length, List·getD-eq-default}
 use Rattle.records.specs.declared.alert.AlertCode.{AlertCode}
-use Rattle.records.specs.declared.alert.AlertCode.the-variants.{RateExceeded, SvRateAnomaly, CbHijack}
+use Rattle.records.specs.declared.alert.AlertCode.the-variants.{PolicyViolation, RateExceeded, SvRateAnomaly, CbHijack}
 use Rattle.records.specs.declared.alert.AlertSeverity.{AlertSeverity}
 use Rattle.records.specs.declared.alert.AlertSeverity.the-variants.{Medium, High}
 use Rattle.records.specs.declared.error.VsError.{VsError}
@@ -32,6 +32,7 @@ use Rattle.wire.specs.declared.sv.Parsed.{Parsed}
 use Rattle.wire.specs.declared.sv.Parsed.the-variants.{Frame, Error}
 use Rattle.wire.specs.declared.sv.ParsedSv.{ParsedSv}
 use Rattle.wire.specs.Sv.{svFrame}
+use Rattle.inspection.specs.declared.goose_seq.GooseSeqTable.{GooseSeqTable}
 use Rattle.inspection.specs.declared.goose_seq.GooseChecked.{GooseChecked}
 use Rattle.inspection.specs.declared.mms_rule.MmsRules.{MmsRules}
 use Rattle.inspection.specs.declared.monitor.Iec61850Monitor.{Iec61850Monitor}
@@ -53,16 +54,18 @@ use Rattle.inspection.specs.declared.time_field.TimeChecked.{TimeChecked
 use Rattle.inspection.specs.Address.{addressOf}
 use Rattle.inspection.specs.GoosePublisher.{firstFitting, goosePublisher}
 use Rattle.inspection.specs.GooseSeq.{controlBlock, gooseTimed, retxChecked, gooseChecked}
-use Rattle.inspection.specs.InspectGoose.{goosePair, streamFindings, gooseStream, gooseClock, gooseTimeField, gooseBound, gooseReservation}
+use Rattle.inspection.specs.InspectGoose.{goosePair, streamFindings, gooseStream, gooseClock, gooseTimeField, gooseBound, gooseReservation, gooseAllowed, blocked, gooseTest}
 use Rattle.inspection.specs.InspectMms.{domainName, fullFindings, mmsReserved, mmsControl, mmsRated, mmsRate, mmsRule, mmsMask}
 use Rattle.inspection.specs.InspectSv.{svPair, rateFindings, countFindings, svCount, svClock, svTimeField, svRuleCheck, inspectSv, rawInspected, inspectRawSv, svBound, svReservation, svBinding}
 use Rattle.inspection.specs.Monitor.{withAlerts, withReservations, withRates, withClocks, withGooseStreams, withSvStreams}
 use Rattle.inspection.specs.Rate.{rateChecked}
 use Rattle.inspection.specs.Report.{Finding, Checked, refusal, notice, clockFindings, ended, permitted, withAllowed, reportedNext, reported, findingsOf, alertsOf, checkedOf}
-use Rattle.inspection.specs.Reservation.{reserved, released, cbChecked}
+use Rattle.inspection.specs.Reservation.{reserved, released, cbChecked, cbKeptChecked}
 use Rattle.inspection.specs.SvPublisher.{lastFitting, svPublisher}
 use Rattle.inspection.specs.SvSeq.{svKey, isReplay, svChecked}
 use Rattle.inspection.specs.TimeField.{timeChecked}
+use Rattle.inspection.proofs.GooseSeqLaws.{withoutAges, retx-columns}
+use Rattle.inspection.proofs.ReservationLaws.{kept-used}
 
 -- ---- report: alerts added one by one, and the counters put back
 
@@ -193,44 +196,61 @@ module _ (m : Iec61850Monitor) (f : MmsFrame) where
 
 module _ (m : Iec61850Monitor) (f : GooseFrame) where
   -- publishers exist, and none fits the frame
-  abbrev pub gooseNotListed : Bool
+  abbrev gooseNotListed : Bool
   gooseNotListed = ltb 0 (m .rules .goose .count) && not (isFound (goosePublisher (m .rules .goose) (addressOf (f .«src_mac»)) (controlBlock f)))
 
-  -- so says the search by the padded name and its length
-  pub goose-not-listed :
-      length (f .«go_cb_ref») ≡ 64
-      → {n address : ℕ} {kept : List ℕ} {found : Found} {missing : Bool}
-      → n ≡ validLen (f .«go_cb_ref_len»)
-      → kept ≡ padded (f .«go_cb_ref») n
-      → address ≡ addressOf (f .«src_mac»)
-      → found
-      ≡ firstFitting (m .rules .goose .«src_mac») (m .rules .goose .«go_cb_ref» .octets) (m .rules .goose .«go_cb_ref» .lens)
-      (m .rules .goose .count) address kept n
-      → missing ≡ (ltb 0 (m .rules .goose .count) && not (isFound found))
-      → missing ≡ gooseNotListed
-  unfolding goosePublisher
-  goose-not-listed size l k a e r =
-      let p = m .rules .goose in
-      let octets = kept-octets (f .«go_cb_ref») (f .«go_cb_ref_len») size l k in
-      let len = kept-len (f .«go_cb_ref») (f .«go_cb_ref_len») size l k in
-      let publisher = e ∙ (λ i. firstFitting (p .«src_mac») (p .«go_cb_ref» .octets) (p .«go_cb_ref» .lens) (p .count) (a i) (octets i) (len i)) in
-      r ∙ ap (λ (x : Found). ltb 0 (p .count) && not (isFound x)) publisher
+  -- a test frame while blocked
+  pub test-refused : {found : List Finding} → blocked (m .settings) f ≡ true → found ≡ refusal Medium PolicyViolation ∷ [] → ended m found ≡ gooseTest m f
+  unfolding gooseTest
+  test-refused b r = ap (ended m) r ∙ sym (cond-yes _ _ b)
 
-  -- the reservation of the control block, looked up for the address
-  pub goose-used :
-      {address : ℕ} {used : CbChecked}
-      → address ≡ addressOf (f .«src_mac»)
-      → used ≡ cbChecked (m .«cb_reservations») (controlBlock f) true address
-      → gooseBound m f used ≡ gooseReservation m f
-  unfolding gooseReservation
-  goose-used a e = ap (gooseBound m f) (e ∙ ap (cbChecked (m .«cb_reservations») (controlBlock f) true) a)
+  -- the publishers, searched by the name as it is kept
+  module _ (size : length (f .«go_cb_ref») ≡ 64) {n address : ℕ} {kept : List ℕ} {place : Found} {missing : Bool}
+      (b : blocked (m .settings) f ≡ false) (l : n ≡ validLen (f .«go_cb_ref_len»)) (k : kept ≡ padded (f .«go_cb_ref») n) (a : address ≡ addressOf (f .«src_mac»))
+      (e : place
+      ≡ firstFitting (m .rules .goose .«src_mac») (m .rules .goose .«go_cb_ref» .octets) (m .rules .goose .«go_cb_ref» .lens)
+      (m .rules .goose .count) address kept n)
+      (u : missing ≡ (ltb 0 (m .rules .goose .count) && not (isFound place))) where
+    not-listed : missing ≡ gooseNotListed
+    unfolding goosePublisher
+    not-listed =
+        let p = m .rules .goose in
+        let octets = kept-octets (f .«go_cb_ref») (f .«go_cb_ref_len») size l k in
+        let len = kept-len (f .«go_cb_ref») (f .«go_cb_ref_len») size l k in
+        let publisher = e ∙ (λ i. firstFitting (p .«src_mac») (p .«go_cb_ref» .octets) (p .«go_cb_ref» .lens) (p .count) (a i) (octets i) (len i)) in
+        u ∙ ap (λ (x : Found). ltb 0 (p .count) && not (isFound x)) publisher
+
+    pub unlisted-refused : {found : List Finding} → missing ≡ true → found ≡ refusal High PolicyViolation ∷ [] → ended m found ≡ gooseTest m f
+    unfolding gooseTest gooseAllowed
+    unlisted-refused h r = ap (ended m) r ∙ sym (cond-no _ _ b ∙ cond-yes _ _ (answered not-listed h))
+
+    pub listed-checked : missing ≡ false → gooseReservation m f ≡ gooseTest m f
+    unfolding gooseTest gooseAllowed
+    listed-checked h = sym (cond-no _ _ b ∙ cond-no _ _ (answered not-listed h))
+
+  -- the reservation of the control block, looked up for the address by the name as it is kept
+  module _ {name : List ℕ} {len address : ℕ} {used : CbChecked}
+      (e : name ≡ padded (controlBlock f) (length (controlBlock f))) (l : len ≡ length (controlBlock f)) (a : address ≡ addressOf (f .«src_mac»))
+      (u : used ≡ cbKeptChecked (m .«cb_reservations») name len true address) where
+    goose-used : gooseBound m f used ≡ gooseReservation m f
+    unfolding gooseReservation
+    goose-used =
+        ap (gooseBound m f)
+        (u ∙ kept-used (m .«cb_reservations») (controlBlock f) true address e l ∙ ap (cbChecked (m .«cb_reservations») (controlBlock f) true) a)
+
+    pub goose-hijacked :
+        {found : List Finding} → used .hijack ≡ true → found ≡ refusal High CbHijack ∷ [] → ended (withReservations m (used .table)) found ≡ gooseReservation m f
+    goose-hijacked h r = ap (ended (withReservations m (used .table))) r ∙ sym (cond-yes _ _ h) ∙ goose-used
+
+    pub goose-not-hijacked : used .hijack ≡ false → gooseTimeField (withReservations m (used .table)) f ≡ gooseReservation m f
+    goose-not-hijacked h = sym (cond-no _ _ h) ∙ goose-used
 
   -- clock, retransmission and stream of an address and a hash
   abbrev clockChecked : ℕ → TimeChecked
   clockChecked address = timeChecked (m .«time_trackers») (m .settings .«time_max_forward_jump_s») address (goosePair f)
 
-  abbrev scheduleChecked : ℕ → ℕ → Bool
-  scheduleChecked address hash = retxChecked (m .settings .«retx_enforce») (m .settings .«retx_schedule») (m .«goose_seq») (address, hash) (gooseTimed f)
+  abbrev scheduleChecked : GooseSeqTable → ℕ → ℕ → Bool
+  scheduleChecked t address hash = retxChecked (m .settings .«retx_enforce») (m .settings .«retx_schedule») t (address, hash) (gooseTimed f)
 
   abbrev streamChecked : ℕ → ℕ → GooseChecked
   streamChecked address hash = gooseChecked (m .«goose_seq») (address, hash) (gooseTimed f)
@@ -240,15 +260,15 @@ module _ (m : Iec61850Monitor) (f : GooseFrame) where
       → address ≡ addressOf (f .«src_mac»)
       → hash ≡ fnv1a (controlBlock f)
       → clock ≡ clockChecked address
-      → outside ≡ scheduleChecked address hash
+      → outside ≡ scheduleChecked (withoutAges (m .«goose_seq»)) address hash
       → stream ≡ streamChecked address hash
       → findingsOf first ≡ clockFindings (clock .alert)
       → findingsOf second ≡ streamFindings (stream .replay) outside
-      → checkedOf (record { monitor = withGooseStreams (withClocks m (clock .table)) (stream .table); first = first; second = second; third = Nothing })
+      → ended (withGooseStreams (withClocks m (clock .table)) (stream .table)) (alertsOf (record { first = first; second = second; third = Nothing }))
       ≡ gooseTimeField m f
   unfolding gooseTimeField
   goose-time-field-checked first second {clock} {address} {hash} {outside} {stream} e h t o s a b =
-      let outside-by-key = o ∙ (λ i. scheduleChecked (e i) (h i)) in
+      let outside-by-key = o ∙ retx-columns _ _ (m .«goose_seq») _ _ ∙ (λ i. scheduleChecked (m .«goose_seq») (e i) (h i)) in
       let stream-by-key = s ∙ (λ i. streamChecked (e i) (h i)) in
       (λ i. ended (withGooseStreams (withClocks m (clock .table)) (stream .table)) (a i ++ (append-nil (findingsOf second) ∙ b) i))
       ∙ (λ i. gooseStream (withClocks m (clock .table)) (clockFindings (clock .alert)) (outside-by-key i) (stream-by-key i))

@@ -8,11 +8,15 @@ use Rattle.records.specs.declared.alert.AlertCode.the-variants.{ReplayDetected,
 use Rattle.records.specs.declared.frame.GooseFrame.{GooseFrame}
 use Rattle.records.specs.Alert.{sourceGoose}
 use Rattle.records.specs.Search.{isFound}
+use Rattle.inspection.specs.declared.goose_publisher.GoosePublishers.{GoosePublishers}
+use Rattle.inspection.specs.declared.goose_seq.GooseSeqTable.{GooseSeqTable}
 use Rattle.inspection.specs.declared.goose_seq.GooseChecked.{GooseChecked}
 use Rattle.inspection.specs.declared.monitor.Iec61850Monitor.{Iec61850Monitor}
 use Rattle.inspection.specs.declared.monitor.Inspected.{Inspected}
 use Rattle.inspection.specs.declared.settings.Settings.{Settings}
+use Rattle.inspection.specs.declared.reservation.CbReservations.{CbReservations}
 use Rattle.inspection.specs.declared.reservation.CbChecked.{CbChecked}
+use Rattle.inspection.specs.declared.time_field.TimeTrackers.{TimeTrackers}
 use Rattle.inspection.specs.declared.time_field.TimeChecked.{TimeChecked}
 use Rattle.inspection.specs.Address.{addressOf}
 use Rattle.inspection.specs.GoosePublisher.{goosePublisher}
@@ -75,3 +79,19 @@ gooseTest m f =
 -- the monitor after a GOOSE frame, and the result
 unfoldable pub inspectGoose : Iec61850Monitor → GooseFrame → Inspected
 inspectGoose m f = reported sourceGoose (f .«st_num») (f .«timestamp_us») (gooseTest (countedGoose m) f)
+
+-- ---- the checks over the columns of a monitor, for the code
+
+-- a monitor with these parts in place of its own: what a GOOSE inspection reads and changes
+abbrev pub withGooseParts : Iec61850Monitor → Settings → GoosePublishers → CbReservations → TimeTrackers → GooseSeqTable → Iec61850Monitor
+withGooseParts m settings publishers reservations clocks streams =
+    record {
+      settings = settings;
+      rules = record { mms = m .rules .mms; goose = publishers; sv = m .rules .sv };
+      «rate_buckets» = m .«rate_buckets»;
+      «goose_seq» = streams;
+      «sv_seq» = m .«sv_seq»;
+      «time_trackers» = clocks;
+      «cb_reservations» = reservations;
+      totals = m .totals;
+    }

@@ -1,29 +1,38 @@
 // The inspection of a GOOSE frame, carried over from industrial/iec61850-monitor/src/lib.rs of craton-shield a31d888527
-// (Apache-2.0) and changed: the checks in stages, the alerts added at the end.
+// (Apache-2.0) and changed: the checks in stages, over lent columns; the alerts added at the end.
+ghost use Prim.Native.Nat.{ℕ};
 ghost use mathlib.Core.Path.{_≡_};
 ghost use mathlib.Core.Bool.{_&&_, not};
+ghost use mathlib.Core.List.{List};
 ghost use lib.Dec.{ltb};
+ghost use lib.ListN.{length};
 ghost use Rattle.records.specs.Hash.{fnv1a};
-ghost use Rattle.records.specs.Name.{nameOf};
+ghost use Rattle.records.specs.Name.{nameOf, padded};
 ghost use Rattle.records.specs.Search.{isFound};
-ghost use Rattle.inspection.specs.GooseSeq.{retxChecked, gooseTimed};
-ghost use Rattle.inspection.specs.InspectGoose.{streamFindings, gooseTimeField, gooseReservation, gooseAllowed, gooseTest, inspectGoose};
-ghost use Rattle.inspection.specs.Report.{findingsOf, checkedOf};
+ghost use Rattle.inspection.specs.GooseSeq.{controlBlock, gooseTableOf};
+ghost use Rattle.inspection.specs.InspectGoose.{streamFindings, gooseTimeField, gooseReservation, gooseTest, inspectGoose, withGooseParts};
+ghost use Rattle.inspection.specs.Report.{ended, findingsOf, alertsOf};
+ghost use Rattle.inspection.specs.Reservation.{cbTableOf};
+ghost use Rattle.inspection.specs.TimeField.{clockTableOf};
 use crate::address::address_of;
+use crate::goose_publisher::GoosePublishers;
 use crate::goose_publisher::goose_publisher;
 use crate::goose_seq::GooseSeqTable;
-use crate::goose_seq::check_goose_seq;
+use crate::goose_seq::check_goose_seq_in;
 use crate::goose_seq::retx_anomaly;
 use crate::monitor::Iec61850Monitor;
 use crate::monitor::Inspected;
-use crate::report::AfterChecks;
 use crate::report::CheckAlert;
+use crate::report::CheckAlerts;
 use crate::report::clock_alert;
-use crate::report::ended;
-use crate::report::report;
-use crate::reservation::cb_hijack_check;
+use crate::report::push_alerts;
+use crate::report::refused;
+use crate::reservation::CbReservations;
+use crate::reservation::cb_hijack_check_in;
 use crate::settings::Settings;
-use crate::time_field::check_time_field;
+use crate::time_field::TimeTrackers;
+use crate::time_field::check_time_field_in;
+use records::ageing::Ageing;
 use records::alert::AlertCode;
 use records::alert::AlertSeverity;
 use records::alert::SOURCE_IEC61850_GOOSE;
@@ -55,18 +64,53 @@ fn name_hash(go_cb_ref: [u8; 64], go_cb_ref_len: u8) -> u32
     fnv1a_32(&go_cb_ref[..n])
 }
 
-// Whether a frame misses the schedule, looked up before anything of its stream is stored.
-fn goose_retx(t: GooseSeqTable, settings: Settings, src_mac: u64, hash: u32, f: GooseFrame) -> bool
-    ensures { λ r. ⌜ r ≡ retxChecked (settings .«retx_enforce») (settings .«retx_schedule») t («src_mac», hash) (gooseTimed f) ⌝ }
+// The clock, the retransmission and the stream. A clock alert does not end the checking; a replay leaves out the
+// retransmission's alert, which is looked up before anything of the stream is stored.
+fn goose_time_field<'a>(
+    f: GooseFrame,
+    settings: Settings,
+    clock_macs: &'a mut [u64; 16],
+    clock_seconds: &'a mut [u32; 16],
+    clock_fractions: &'a mut [u32; 16],
+    clock_active: &'a mut [bool; 16],
+    clock_used: &'a mut [u32; 16],
+    clock_tick: &'a mut u32,
+    src_macs: &'a mut [u64; 16],
+    hashes: &'a mut [u32; 16],
+    last_st_num: &'a mut [u32; 16],
+    last_sq_num: &'a mut [u32; 16],
+    last_seen_us: &'a mut [u64; 16],
+    active: &'a mut [bool; 16],
+    used: &'a mut [u32; 16],
+    tick: &'a mut u32,
+) -> CheckAlerts
+    ensures { λ r.
+        ⌜ ((m : Iec61850Monitor) (publishers : GoosePublishers) (reservations : CbReservations) → ended (withGooseParts m settings publishers reservations (clockTableOf (now («clock_macs» .exit)) (now («clock_seconds» .exit)) (now («clock_fractions» .exit)) (now («clock_active» .exit)) (now («clock_used» .exit)) (now («clock_tick» .exit))) (gooseTableOf (now («src_macs» .exit)) (now (hashes .exit)) (now («last_st_num» .exit)) (now («last_sq_num» .exit)) (now («last_seen_us» .exit)) (now (active .exit)) (now (used .exit)) (now (tick .exit)))) (alertsOf r) ≡ gooseTimeField (withGooseParts m settings publishers reservations (clockTableOf (now («clock_macs» .entry)) (now («clock_seconds» .entry)) (now («clock_fractions» .entry)) (now («clock_active» .entry)) (now («clock_used» .entry)) (now («clock_tick» .entry))) (gooseTableOf (now («src_macs» .entry)) (now (hashes .entry)) (now («last_st_num» .entry)) (now («last_sq_num» .entry)) (now («last_seen_us» .entry)) (now (active .entry)) (now (used .entry)) (now (tick .entry)))) f) ⌝ }
 {
+    let mac = f.src_mac;
+    let src_mac = address_of(mac);
+    let clock = check_time_field_in(
+        clock_macs,
+        clock_seconds,
+        clock_fractions,
+        clock_active,
+        clock_used,
+        clock_tick,
+        src_mac,
+        f.t_seconds_since_epoch,
+        f.t_fraction_of_second,
+        settings.time_max_forward_jump_s,
+    );
+    let name = f.go_cb_ref;
+    let hash = name_hash(name, f.go_cb_ref_len);
     let schedule = settings.retx_schedule;
-    retx_anomaly(
-        &t.src_mac,
-        &t.go_cb_ref_hash,
-        &t.last_st_num,
-        &t.last_sq_num,
-        &t.last_seen_us,
-        &t.ageing.active,
+    let outside = retx_anomaly(
+        src_macs,
+        hashes,
+        last_st_num,
+        last_sq_num,
+        last_seen_us,
+        active,
         settings.retx_enforce,
         schedule,
         src_mac,
@@ -74,57 +118,93 @@ fn goose_retx(t: GooseSeqTable, settings: Settings, src_mac: u64, hash: u32, f: 
         f.st_num,
         f.sq_num,
         f.timestamp_us,
-    )
-}
-
-// The clock, the retransmission and the stream. A clock alert does not end the checking; a replay leaves out the retransmission's alert.
-fn goose_time_field(m: Iec61850Monitor, f: GooseFrame) -> AfterChecks
-    ensures { λ r. ⌜ checkedOf r ≡ gooseTimeField m f ⌝ }
-{
-    let mut out = m;
-    let mac = f.src_mac;
-    let src_mac = address_of(mac);
-    let clocks = out.time_trackers;
-    let clock = check_time_field(
-        clocks,
-        src_mac,
-        f.t_seconds_since_epoch,
-        f.t_fraction_of_second,
-        out.settings.time_max_forward_jump_s,
     );
-    let name = f.go_cb_ref;
-    let hash = name_hash(name, f.go_cb_ref_len);
-    let settings = out.settings;
-    let streams = out.goose_seq;
-    let outside = goose_retx(streams, settings, src_mac, hash, f);
-    let stream = check_goose_seq(streams, src_mac, hash, f.st_num, f.sq_num, f.timestamp_us);
-    let kept_clocks = clock.table;
-    let kept_streams = stream.table;
-    out.time_trackers = kept_clocks;
-    out.goose_seq = kept_streams;
-    AfterChecks {
-        monitor: out,
-        first: clock_alert(clock.alert),
-        second: stream_alert(stream.replay, outside),
+    let replay = check_goose_seq_in(
+        src_macs,
+        hashes,
+        last_st_num,
+        last_sq_num,
+        last_seen_us,
+        active,
+        used,
+        tick,
+        src_mac,
+        hash,
+        f.st_num,
+        f.sq_num,
+        f.timestamp_us,
+    );
+    CheckAlerts {
+        first: clock_alert(clock),
+        second: stream_alert(replay, outside),
         third: CheckAlert::Nothing,
     }
 }
 
-// The reservation of the control block, which may end the checking; then clock, retransmission and stream.
-fn goose_reservation(m: Iec61850Monitor, f: GooseFrame) -> AfterChecks
-    ensures { λ r. ⌜ checkedOf r ≡ gooseReservation m f ⌝ }
+// The reservation of the control block, which may end the checking; then clock, retransmission and stream. The name is 64
+// octets, zeros behind its end.
+fn goose_reservation<'a>(
+    f: GooseFrame,
+    settings: Settings,
+    cb_refs: &'a [u8; 1024],
+    cb_lens: &'a [u8; 16],
+    cb_kinds: &'a [bool; 16],
+    cb_active: &'a [bool; 16],
+    cb_bound: &'a mut [bool; 16],
+    cb_macs: &'a mut [u64; 16],
+    clock_macs: &'a mut [u64; 16],
+    clock_seconds: &'a mut [u32; 16],
+    clock_fractions: &'a mut [u32; 16],
+    clock_active: &'a mut [bool; 16],
+    clock_used: &'a mut [u32; 16],
+    clock_tick: &'a mut u32,
+    src_macs: &'a mut [u64; 16],
+    hashes: &'a mut [u32; 16],
+    last_st_num: &'a mut [u32; 16],
+    last_sq_num: &'a mut [u32; 16],
+    last_seen_us: &'a mut [u64; 16],
+    active: &'a mut [bool; 16],
+    used: &'a mut [u32; 16],
+    tick: &'a mut u32,
+    name: &'a [u8; 64],
+    len: u8,
+) -> CheckAlerts
+    ensures { λ r.
+        ⌜ ((m : Iec61850Monitor) (publishers : GoosePublishers) (owners : List ℕ) → now (name .entry) ≡ padded (controlBlock f) (length (controlBlock f)) → len ≡ length (controlBlock f) → ended (withGooseParts m settings publishers (cbTableOf (now («cb_refs» .entry)) (now («cb_lens» .entry)) (now («cb_kinds» .entry)) owners (now («cb_bound» .exit)) (now («cb_macs» .exit)) (now («cb_active» .entry))) (clockTableOf (now («clock_macs» .exit)) (now («clock_seconds» .exit)) (now («clock_fractions» .exit)) (now («clock_active» .exit)) (now («clock_used» .exit)) (now («clock_tick» .exit))) (gooseTableOf (now («src_macs» .exit)) (now (hashes .exit)) (now («last_st_num» .exit)) (now («last_sq_num» .exit)) (now («last_seen_us» .exit)) (now (active .exit)) (now (used .exit)) (now (tick .exit)))) (alertsOf r) ≡ gooseReservation (withGooseParts m settings publishers (cbTableOf (now («cb_refs» .entry)) (now («cb_lens» .entry)) (now («cb_kinds» .entry)) owners (now («cb_bound» .entry)) (now («cb_macs» .entry)) (now («cb_active» .entry))) (clockTableOf (now («clock_macs» .entry)) (now («clock_seconds» .entry)) (now («clock_fractions» .entry)) (now («clock_active» .entry)) (now («clock_used» .entry)) (now («clock_tick» .entry))) (gooseTableOf (now («src_macs» .entry)) (now (hashes .entry)) (now («last_st_num» .entry)) (now («last_sq_num» .entry)) (now («last_seen_us» .entry)) (now (active .entry)) (now (used .entry)) (now (tick .entry)))) f) ⌝ }
 {
-    let mut out = m;
     let mac = f.src_mac;
-    let name = f.go_cb_ref;
-    let reservations = out.cb_reservations;
-    let used = cb_hijack_check(reservations, name, f.go_cb_ref_len, true, address_of(mac));
-    let kept = used.table;
-    out.cb_reservations = kept;
-    if used.hijack {
-        return ended(out, AlertSeverity::High, AlertCode::CbHijack);
+    if cb_hijack_check_in(
+        cb_refs,
+        cb_lens,
+        cb_kinds,
+        cb_active,
+        cb_bound,
+        cb_macs,
+        name,
+        len,
+        true,
+        address_of(mac),
+    ) {
+        return refused(AlertSeverity::High, AlertCode::CbHijack);
     }
-    goose_time_field(out, f)
+    goose_time_field(
+        f,
+        settings,
+        clock_macs,
+        clock_seconds,
+        clock_fractions,
+        clock_active,
+        clock_used,
+        clock_tick,
+        src_macs,
+        hashes,
+        last_st_num,
+        last_sq_num,
+        last_seen_us,
+        active,
+        used,
+        tick,
+    )
 }
 
 // Whether publishers exist and none was found.
@@ -137,36 +217,82 @@ fn not_listed(count: u8, found: Found) -> bool
     }
 }
 
-// The publishers, which may end the checking; then the reservation and what follows it.
-fn goose_allowed(m: Iec61850Monitor, f: GooseFrame) -> AfterChecks
-    ensures { λ r. ⌜ checkedOf r ≡ gooseAllowed m f ⌝ }
+// The test flag and the publishers, which may end the checking; then the reservation and what follows it.
+pub fn goose_checks<'a>(
+    f: GooseFrame,
+    settings: Settings,
+    rule_macs: &'a [u64; 16],
+    rule_refs: &'a [u8; 1024],
+    rule_lens: &'a [u8; 16],
+    rule_count: u8,
+    cb_refs: &'a [u8; 1024],
+    cb_lens: &'a [u8; 16],
+    cb_kinds: &'a [bool; 16],
+    cb_active: &'a [bool; 16],
+    cb_bound: &'a mut [bool; 16],
+    cb_macs: &'a mut [u64; 16],
+    clock_macs: &'a mut [u64; 16],
+    clock_seconds: &'a mut [u32; 16],
+    clock_fractions: &'a mut [u32; 16],
+    clock_active: &'a mut [bool; 16],
+    clock_used: &'a mut [u32; 16],
+    clock_tick: &'a mut u32,
+    src_macs: &'a mut [u64; 16],
+    hashes: &'a mut [u32; 16],
+    last_st_num: &'a mut [u32; 16],
+    last_sq_num: &'a mut [u32; 16],
+    last_seen_us: &'a mut [u64; 16],
+    active: &'a mut [bool; 16],
+    used: &'a mut [u32; 16],
+    tick: &'a mut u32,
+) -> CheckAlerts
+    ensures { λ r.
+        ⌜ ((m : Iec61850Monitor) (owners : List ℕ) → ended (withGooseParts m settings (record { «src_mac» = (now («rule_macs» .entry)); «go_cb_ref» = record { octets = (now («rule_refs» .entry)); lens = (now («rule_lens» .entry)) }; count = «rule_count» }) (cbTableOf (now («cb_refs» .entry)) (now («cb_lens» .entry)) (now («cb_kinds» .entry)) owners (now («cb_bound» .exit)) (now («cb_macs» .exit)) (now («cb_active» .entry))) (clockTableOf (now («clock_macs» .exit)) (now («clock_seconds» .exit)) (now («clock_fractions» .exit)) (now («clock_active» .exit)) (now («clock_used» .exit)) (now («clock_tick» .exit))) (gooseTableOf (now («src_macs» .exit)) (now (hashes .exit)) (now («last_st_num» .exit)) (now («last_sq_num» .exit)) (now («last_seen_us» .exit)) (now (active .exit)) (now (used .exit)) (now (tick .exit)))) (alertsOf r) ≡ gooseTest (withGooseParts m settings (record { «src_mac» = (now («rule_macs» .entry)); «go_cb_ref» = record { octets = (now («rule_refs» .entry)); lens = (now («rule_lens» .entry)) }; count = «rule_count» }) (cbTableOf (now («cb_refs» .entry)) (now («cb_lens» .entry)) (now («cb_kinds» .entry)) owners (now («cb_bound» .entry)) (now («cb_macs» .entry)) (now («cb_active» .entry))) (clockTableOf (now («clock_macs» .entry)) (now («clock_seconds» .entry)) (now («clock_fractions» .entry)) (now («clock_active» .entry)) (now («clock_used» .entry)) (now («clock_tick» .entry))) (gooseTableOf (now («src_macs» .entry)) (now (hashes .entry)) (now («last_st_num» .entry)) (now («last_sq_num» .entry)) (now («last_seen_us» .entry)) (now (active .entry)) (now (used .entry)) (now (tick .entry)))) f) ⌝ }
 {
+    if settings.block_test_frames && f.test {
+        return refused(AlertSeverity::Medium, AlertCode::PolicyViolation);
+    }
     let mac = f.src_mac;
     let len = valid_len(f.go_cb_ref_len);
     let name = padded(&f.go_cb_ref, len);
     let found = goose_publisher(
-        &m.rules.goose.src_mac,
-        &m.rules.goose.go_cb_ref.octets,
-        &m.rules.goose.go_cb_ref.lens,
-        m.rules.goose.count,
+        rule_macs,
+        rule_refs,
+        rule_lens,
+        rule_count,
         address_of(mac),
         &name,
         len,
     );
-    if not_listed(m.rules.goose.count, found) {
-        return ended(m, AlertSeverity::High, AlertCode::PolicyViolation);
+    if not_listed(rule_count, found) {
+        return refused(AlertSeverity::High, AlertCode::PolicyViolation);
     }
-    goose_reservation(m, f)
-}
-
-// The test flag, which may end the checking; then the publishers and what follows them.
-fn goose_test(m: Iec61850Monitor, f: GooseFrame) -> AfterChecks
-    ensures { λ r. ⌜ checkedOf r ≡ gooseTest m f ⌝ }
-{
-    if m.settings.block_test_frames && f.test {
-        return ended(m, AlertSeverity::Medium, AlertCode::PolicyViolation);
-    }
-    goose_allowed(m, f)
+    goose_reservation(
+        f,
+        settings,
+        cb_refs,
+        cb_lens,
+        cb_kinds,
+        cb_active,
+        cb_bound,
+        cb_macs,
+        clock_macs,
+        clock_seconds,
+        clock_fractions,
+        clock_active,
+        clock_used,
+        clock_tick,
+        src_macs,
+        hashes,
+        last_st_num,
+        last_sq_num,
+        last_seen_us,
+        active,
+        used,
+        tick,
+        &name,
+        len,
+    )
 }
 
 impl Iec61850Monitor {
@@ -174,15 +300,97 @@ impl Iec61850Monitor {
     pub fn inspect_goose(self, frame: GooseFrame) -> Inspected
         ensures { λ r. ⌜ r ≡ inspectGoose self frame ⌝ }
     {
-        let mut out = self;
-        let total = saturating_increment(self.totals.goose_total_inspected);
-        out.totals.goose_total_inspected = total;
-        let checked = goose_test(out, frame);
-        report(
-            checked,
+        let settings = self.settings;
+        let mut cb_bound = self.cb_reservations.bound;
+        let mut cb_macs = self.cb_reservations.bound_src_mac;
+        let mut clock_macs = self.time_trackers.src_mac;
+        let mut clock_seconds = self.time_trackers.last_t_seconds;
+        let mut clock_fractions = self.time_trackers.last_t_fraction;
+        let mut clock_active = self.time_trackers.ageing.active;
+        let mut clock_used = self.time_trackers.ageing.last_used;
+        let mut clock_tick = self.time_trackers.ageing.tick;
+        let mut src_macs = self.goose_seq.src_mac;
+        let mut hashes = self.goose_seq.go_cb_ref_hash;
+        let mut last_st_num = self.goose_seq.last_st_num;
+        let mut last_sq_num = self.goose_seq.last_sq_num;
+        let mut last_seen_us = self.goose_seq.last_seen_us;
+        let mut active = self.goose_seq.ageing.active;
+        let mut used = self.goose_seq.ageing.last_used;
+        let mut tick = self.goose_seq.ageing.tick;
+        let alerts = goose_checks(
+            frame,
+            settings,
+            &self.rules.goose.src_mac,
+            &self.rules.goose.go_cb_ref.octets,
+            &self.rules.goose.go_cb_ref.lens,
+            self.rules.goose.count,
+            &self.cb_reservations.cb_ref.octets,
+            &self.cb_reservations.cb_ref.lens,
+            &self.cb_reservations.is_goose,
+            &self.cb_reservations.active,
+            &mut cb_bound,
+            &mut cb_macs,
+            &mut clock_macs,
+            &mut clock_seconds,
+            &mut clock_fractions,
+            &mut clock_active,
+            &mut clock_used,
+            &mut clock_tick,
+            &mut src_macs,
+            &mut hashes,
+            &mut last_st_num,
+            &mut last_sq_num,
+            &mut last_seen_us,
+            &mut active,
+            &mut used,
+            &mut tick,
+        );
+        let mut totals = self.totals;
+        let counters = totals.alerts;
+        let pushed = push_alerts(
+            counters,
+            alerts,
             SOURCE_IEC61850_GOOSE,
             frame.st_num,
             frame.timestamp_us,
-        )
+        );
+        let counted = pushed.counters;
+        totals.goose_total_inspected = saturating_increment(totals.goose_total_inspected);
+        totals.alerts = counted;
+        let mut reservations = self.cb_reservations;
+        reservations.bound = cb_bound;
+        reservations.bound_src_mac = cb_macs;
+        let clocks = TimeTrackers {
+            src_mac: clock_macs,
+            last_t_seconds: clock_seconds,
+            last_t_fraction: clock_fractions,
+            ageing: Ageing {
+                active: clock_active,
+                last_used: clock_used,
+                tick: clock_tick,
+            },
+        };
+        let streams = GooseSeqTable {
+            src_mac: src_macs,
+            go_cb_ref_hash: hashes,
+            last_st_num: last_st_num,
+            last_sq_num: last_sq_num,
+            last_seen_us: last_seen_us,
+            ageing: Ageing {
+                active: active,
+                last_used: used,
+                tick: tick,
+            },
+        };
+        let mut out = self;
+        out.cb_reservations = reservations;
+        out.time_trackers = clocks;
+        out.goose_seq = streams;
+        out.totals = totals;
+        let result = pushed.result;
+        Inspected {
+            monitor: out,
+            result: result,
+        }
     }
 }
