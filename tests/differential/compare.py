@@ -32,10 +32,15 @@ def lines_of(program, script):
     return done.stdout.split(b"\n") + [b"exit status %d" % done.returncode]
 
 
-# Where two programs' lines for a script begin to differ, and both lines; nothing if they do not.
+# Where two lists of lines begin to differ, and both lines; nothing if they do not.
+def first_unequal(ours, theirs):
+    both = enumerate(itertools.zip_longest(ours, theirs, fillvalue=b"no line"))
+    return next(((number, *pair) for number, pair in both if pair[0] != pair[1]), None)
+
+
+# Where two programs' lines for a script begin to differ.
 def difference(programs, script):
-    both = itertools.zip_longest(*(lines_of(program, script) for program in programs), fillvalue=b"no line")
-    return next(((number, ours, theirs) for number, (ours, theirs) in enumerate(both) if ours != theirs), None)
+    return first_unequal(*(lines_of(program, script) for program in programs))
 
 
 # Whether two programs' lines for these calls differ.
@@ -139,28 +144,35 @@ def compare_calls(programs, counted, folder, seed, many, counts):
     return True
 
 
+# Why the last line of some answers says that a line is malformed; nothing, if it does not.
+def why_malformed(lines):
+    found = re.fullmatch(rb"malformed line \d+: (.*)", lines[-3]) if len(lines) > 2 else None
+    return re.sub(r"\d+", "K", found[1].decode()) if found else None
+
+
 # Compares the small scripts about the form of lines, and answers whether no difference was found.
 def compare_malformed(programs, folder, counts):
     many = bad = 0
-    for script, is_bad in malformed.scripts():
-        found = difference(programs, script)
-        if found:
-            print(f"DIFFERENT at small script {many + 1}:")
+    for many, (script, is_bad) in enumerate(malformed.scripts(), 1):
+        ours, theirs = (lines_of(program, script) for program in programs)
+        if first_unequal(ours, theirs):
+            print(f"DIFFERENT at small script {many}:")
             show(programs, script, os.path.join(folder, "difference.script"))
             return False
-        last = re.search(rb"malformed line \d+: (.*)\n$", subprocess.run([programs[1]], input=script, stdout=subprocess.PIPE).stdout)
-        if last:
-            counts["malformed line", re.sub(r"\d+", "K", last[1].decode())] += 1
-        if is_bad and not last:
-            print(f"FAILED: a line of small script {many + 1} is meant to be malformed, and is none by the Rust driver")
+        why = why_malformed(theirs)
+        if is_bad and not why:
+            print(f"FAILED: a line of small script {many} is meant to be malformed, and is not by the Rust driver")
             return False
-        many, bad = many + 1, bad + bool(last)
-    print(f"{many} small scripts compared, {bad} with a malformed line, 0 differences")
+        if why:
+            bad += 1
+            counts["malformed line", why] += 1
+    print(f"{many} small scripts compared, {bad} with a malformed line, 0 differences", flush=True)
     return True
 
 
 def main(ours, theirs, counted, folder, seed, many):
     counts = tally.empty()
+    counts.update({("malformed line", why): 0 for why in tally.MALFORMED})
     programs = (ours, theirs)
     same = compare_malformed(programs, folder, counts) and compare_calls(programs, counted, folder, seed, int(many), counts)
     if same:

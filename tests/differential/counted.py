@@ -45,9 +45,13 @@ pub mod counted {
         *NAMED.lock().unwrap().entry(name).or_insert(0) += 1;
     }
 
-    /// Counts a call.
+    /// Keeps the name of the call.
     pub fn call(name: &[u8]) {
         *CALL.lock().unwrap() = String::from_utf8_lossy(name).to_string();
+    }
+
+    /// Counts the call, which was made.
+    pub fn made() {
         named(std::format!("call {}", CALL.lock().unwrap()));
     }
 
@@ -82,6 +86,7 @@ pub mod counted {
 # The statements in the driver: the function, the text, the statement, and whether it stands before the text.
 IN_DRIVER = (
     ("fn make_call(", "match name {", "vs_types_ind::counted::call(name);", True),
+    ("fn answer(", "    put_totals(line, m);", "vs_types_ind::counted::made();", True),
     ("fn put_error(", 'put(line, "error ", error as u32);', "vs_types_ind::counted::error(error as u32);", True),
     ("fn put_result(", "let many =", "vs_types_ind::counted::result(result);", True),
     ("fn main(", "    output.flush()", "vs_types_ind::counted::save();", True),

@@ -106,6 +106,8 @@ def header_reasons():
         yield frame(bytes.fromhex(apdu))
     for apdu in (b"\x80\x05\x01" + tlv(0xA2, count), b"\x1f\x00" + tlv(0xA2, count), tlv(0xA2, b"\x30")):
         yield frame(apdu)
+    for bad in map(bytes.fromhex, ("81", "8200", "830000", "8400", "80", "85", "83010000", "84ffffffff", "05", "8105")):
+        yield from (frame(b"\x60" + bad), frame(b"\x80" + bad), frame(tlv(0xA2, b"\x30" + bad)), around(count + b"\x87" + bad))
 
 
 # A few frames for each rule about a field.

@@ -119,6 +119,24 @@ def alerts_together(_):
             yield goose(MAC, NAME, 5, count % 40000, 0, 100, (5, 5))
 
 
+# The octets of an SV frame of these numbers.
+def octets_of(mac, svid, count, rate, data_set, clock):
+    fields = (frames.tlv(0x80, svid), frames.tlv(0x81, data_set), frames.tlv(0x82, count.to_bytes(2, "big")))
+    fields += (frames.tlv(0x84, clock[0].to_bytes(4, "big") + clock[1].to_bytes(3, "big")), frames.tlv(0x86, rate.to_bytes(2, "big")))
+    return frames.around(b"".join(fields), source=mac)
+
+
+# Every verdict on an SV frame, by raw frames: publishers, reservation, clock, count and rate.
+def raw_verdicts(_):
+    for strict, mac, svid, data_set in itertools.product((0, 1), (MAC, OTHER), (b"M1", b"M2"), (b"", b"D1")):
+        for seconds, count, rate in itertools.product((4, 5, 9), (5, 6, 9, 40000), (0, 80, 81)):
+            yield calls.new(strict)
+            yield from (call("set_time_max_forward_jump_s", 2), call("set_sv_max_smp_cnt_gap", 2), sv_publisher(MAC, b"M1", 80))
+            yield from (mms(SELECT, 11, name(b"D1"), kind=0), goose(mac, NAME, 1, 1, 0, 0, (5, 5)))
+            yield calls.raw_sv(7, octets_of(MAC, b"M1", 5, 80, b"D1", (5, 5)))
+            yield calls.raw_sv(8, octets_of(mac, svid, count, rate, data_set, (seconds, 5)))
+
+
 # Every raw number with masks of the monitor and of a rule, strict and not.
 def masks(_):
     some = (0, 1, 2, 0x8000, 0x7FFF, 0xFFFE, 0xFFFF, 0x1234)
@@ -319,8 +337,8 @@ def of_frames(make):
     return lines
 
 
-MAKERS = (services, intervals, consumptions, counts, gaps, states, retransmissions, clocks, alerts_together, masks, writes, several_rules)
-MAKERS += (lengths, full_rules, full_tables, equal_hashes, rates, reservations, full_reservations, resets, extremes)
+MAKERS = (services, intervals, consumptions, counts, gaps, states, retransmissions, clocks, alerts_together, raw_verdicts)
+MAKERS += (masks, writes, several_rules, lengths, full_rules, full_tables, equal_hashes, rates, reservations, full_reservations, resets, extremes)
 MAKERS += tuple(map(of_frames, frames.LISTED))
 
 

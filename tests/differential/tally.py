@@ -22,17 +22,17 @@ RESULTS = {
     "inspect_sv": SV_RESULTS,
     "inspect_raw_sv": SV_RESULTS,
 }
+# Why a line is malformed; the counted copy does not count this.
 MALFORMED = ("too long", "unknown call", "argument K missing", "argument K malformed", "argument K unexpected")
 
 
-# A tally with every row at 0, by group and row.
+# A tally of calls with every row at 0, by group and row.
 def empty():
     rows = [("call", name) for name in CALLS]
     rows += [(place.group, place.what) for place in places.PLACES]
     rows += [("refusal", f" 3 {name}, unreadable frame") for name in ("inspect_raw_sv", "parse_sv")]
     rows += [("result", f"{name} {verdict}") for name, verdicts in RESULTS.items() for verdict in verdicts]
     rows += [("alert", f"{name} {alert}") for name, verdicts in RESULTS.items() for alert in alerts(verdicts)]
-    rows += [("malformed line", why) for why in MALFORMED]
     return collections.Counter({row: 0 for row in rows})
 
 
