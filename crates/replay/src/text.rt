@@ -19,26 +19,27 @@ pub fn put_octets(line: &mut [u8], at: usize, octets: &[u8]) -> usize
     at + n
 }
 
-// Puts a space and a number's decimal digits.
-pub fn put_number(line: &mut [u8], at: usize, number: u64) -> usize
+// Puts a word and a number's decimal digits.
+pub fn put_number(line: &mut [u8], at: usize, word: &[u8], number: u64) -> usize
     requires { ⌜ at ≤ length (now line) ⌝ }
     ensures { λ r. ⌜ Counts r (now (line .exit)) ⌝ }
 {
     let mut digits = [0u8; 20];
     let n = io::decimal(number, &mut digits);
-    let start = put_octets(line, at, b" ");
+    let start = put_octets(line, at, word);
     put_octets(line, start, &digits[..n])
 }
 
-// Puts a space and 1 or 0.
-pub fn put_flag(line: &mut [u8], at: usize, flag: bool) -> usize
+// Puts a word and 1 or 0.
+pub fn put_flag(line: &mut [u8], at: usize, word: &[u8], flag: bool) -> usize
     requires { ⌜ at ≤ length (now line) ⌝ }
     ensures { λ r. ⌜ Counts r (now (line .exit)) ⌝ }
 {
+    let start = put_octets(line, at, word);
     if flag {
-        return put_octets(line, at, b" 1");
+        return put_octets(line, start, b"1");
     }
-    put_octets(line, at, b" 0")
+    put_octets(line, start, b"0")
 }
 
 // Puts an octet as two digits.
