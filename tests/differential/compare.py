@@ -1,7 +1,8 @@
 #!/usr/bin/env python3
 # Compares our replay with the Rust driver on scripts made from a seed: compare.py OURS THEIRS COUNTED DIR SEED CALLS
 # The three are programs; COUNTED is the driver over the counted copy of the Rust, for the tally. Scripts are made in pieces in DIR, which
-# keeps the tally as tally.json and, after a difference, the calls that show it as difference.script. Exit status: 0 no difference, 1 a difference.
+# keeps the tally as tally.json and, after a difference, the calls that show it as difference.script.
+# Exit status: 0 no difference, 1 a difference.
 import filecmp
 import itertools
 import os
@@ -95,7 +96,7 @@ def shown(line):
 def show_piece(programs, calls, number, folder):
     history = calls_up_to(programs, calls, number)
     short = cut_down(programs, history)
-    print(f"the {len(short)} calls that show it, of the {len(history)} before it:")
+    print(f"cut down to {len(short)} of the {len(history)} calls of its history:")
     show(programs, "".join(short).encode(), os.path.join(folder, "difference.script"))
 
 

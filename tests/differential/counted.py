@@ -16,13 +16,14 @@ MODULE = """
 /// Counts what a script reaches.
 pub mod counted {
     extern crate std;
-    use core::sync::atomic::{AtomicU64, AtomicUsize, Ordering::Relaxed};
+    use core::sync::atomic::{AtomicBool, AtomicU64, AtomicUsize, Ordering::Relaxed};
     use std::collections::BTreeMap;
     use std::string::{String, ToString};
     use std::sync::Mutex;
 
     static PLACES: [AtomicU64; MANY] = [const { AtomicU64::new(0) }; MANY];
     static LEVEL: AtomicUsize = AtomicUsize::new(0);
+    static FAILED: AtomicBool = AtomicBool::new(false);
     static CALL: Mutex<String> = Mutex::new(String::new());
     static NAMED: Mutex<BTreeMap<String, u64>> = Mutex::new(BTreeMap::new());
 
@@ -48,6 +49,7 @@ pub mod counted {
     /// Keeps the name of the call.
     pub fn call(name: &[u8]) {
         *CALL.lock().unwrap() = String::from_utf8_lossy(name).to_string();
+        FAILED.store(false, Relaxed);
     }
 
     /// Counts the call, which was made.
@@ -57,11 +59,15 @@ pub mod counted {
 
     /// Counts an error of the call.
     pub fn error(number: u32) {
+        FAILED.store(true, Relaxed);
         named(std::format!("error {} {number}", CALL.lock().unwrap()));
     }
 
-    /// Counts a result of the call, by its verdict, severities and codes.
+    /// Counts a result of the call, by its verdict, severities and codes; not the clean one beside an error.
     pub fn result(result: &super::InspectResult) {
+        if FAILED.load(Relaxed) {
+            return;
+        }
         let mut name = std::format!("result {} {}", CALL.lock().unwrap(), if result.allowed { "allowed" } else { "refused" });
         for at in 0..usize::from(result.alert_count) {
             name += &std::format!(" {:?}:{}", result.alerts[at].severity, result.alert_codes[at] as u8);

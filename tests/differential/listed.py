@@ -297,7 +297,9 @@ def resets(_):
         for wanted in range(1 << 6):
             on = [wanted >> bit & 1 for bit in range(6)]
             yield calls.new(strict)
-            yield from (call("set_mms_service_mask", 0x1FFE * on[0]), call("set_mms_read_only", on[1]), call("set_block_test_frames", on[2]))
+            yield from (
+                call("set_mms_service_mask", 0x1FFE * on[0]), call("set_mms_read_only", on[1]), call("set_block_test_frames", on[2]),
+            )
             yield from (call("set_sv_max_smp_cnt_gap", 2 * on[3]), calls.schedule(3000, 900_000, 10, on[4]))
             yield call("set_time_max_forward_jump_s", 5 * on[5])
             if value:
@@ -306,7 +308,9 @@ def resets(_):
             yield from (goose(MAC, NAME, 5, 5, 0, 9, (9, 9)), sv(MAC, NAME, 5, 80, NAME, 9, (9, 9)))
             yield call("reset")
             yield from (mms(2, 2, NAME, 1, 9), mms(READ, 0, NAME, 1, 9), mms(READ, 1, NAME, 1, 9), mms(READ, 1, NAME, 1, 9))
-            yield from (goose(OTHER, NAME, 5, 5, 1, 9, (9, 9)), goose(OTHER, NAME, 5, 5, 0, 9, (8, 9)), goose(OTHER, NAME, 5, 6, 0, 99, (99, 9)))
+            yield from (
+                goose(OTHER, NAME, 5, 5, 1, 9, (9, 9)), goose(OTHER, NAME, 5, 5, 0, 9, (8, 9)), goose(OTHER, NAME, 5, 6, 0, 99, (99, 9)),
+            )
             yield from (sv(OTHER, NAME, 5, 81, NAME, 9, (9, 9)), sv(OTHER, NAME, 8, 81, NAME, 9, (20, 9)), call("totals"))
 
 
@@ -319,9 +323,14 @@ def extremes(_):
         yield call("set_time_max_forward_jump_s", other)
         yield mms(255, 255, NAME, number, time, other, 1)
         yield mms(SELECT, 255, NAME, number, MOST_64 - time, other, 0)
-        yield from (goose(b"\xff" * 6, NAME, number, other, 1, time, (number, other)), goose(b"\xff" * 6, NAME, other, number, 0, 0, (other, number)))
+        yield from (
+            goose(b"\xff" * 6, NAME, number, other, 1, time, (number, other)),
+            goose(b"\xff" * 6, NAME, other, number, 0, 0, (other, number)),
+        )
         yield goose(b"\xff" * 6, NAME, number, min(other + 1, MOST_32), 1, MOST_64, (number, other))
-        yield from (sv(b"\xff" * 6, NAME, number % 65536, MOST_16, NAME, time, (other, number)), sv(MAC, NAME, other % 65536, 1, NAME, MOST_64))
+        yield from (
+            sv(b"\xff" * 6, NAME, number % 65536, MOST_16, NAME, time, (other, number)), sv(MAC, NAME, other % 65536, 1, NAME, MOST_64),
+        )
 
 
 # A maker of the frames of one listed kind, by turns read only and inspected.
@@ -338,7 +347,9 @@ def of_frames(make):
 
 
 MAKERS = (services, intervals, consumptions, counts, gaps, states, retransmissions, clocks, alerts_together, raw_verdicts)
-MAKERS += (masks, writes, several_rules, lengths, full_rules, full_tables, equal_hashes, rates, reservations, full_reservations, resets, extremes)
+MAKERS += (
+    masks, writes, several_rules, lengths, full_rules, full_tables, equal_hashes, rates, reservations, full_reservations, resets, extremes,
+)
 MAKERS += tuple(map(of_frames, frames.LISTED))
 
 

@@ -28,11 +28,21 @@ ARGUMENTS = {
 PLAIN = {"flag": b"1", "octets": b"4d31", "address": b"02000000000a", "name": b"4d31"}
 NO_OCTETS = (b"0", b"0g", b"g0", b"abc", b'"', b'"a', b'a"', b'"a"b"', b'"a"b', b'"\x7f"', b'"\xc3\xa4"', b'"\x00"', b'"\x0b"', b"0x12")
 NO_OCTETS += (b"--", b"-0", b"12-", b"'ab'", b"4d31:", b"\xe4\xf6", b"/0", b":0", b"@0", b"G0", b"`0", b'"a b"', b'"a\tb"')
-NO_NUMBERS = (b"-1", b"+1", b"1.0", b"1_0", b"0x1", b"a", b"1a", b"a1", b'"1"', b"-", b"/", b":", b"9" * 20, b"0" * 21, b"0" * 20 + b"1", b"9" * 40)
-NO_NAMES = (b"00" * 65, b'"' + b"n" * 65 + b'"', b"256:4d", b"1:", b":4d", b":", b"-1:4d", b"1:2:4d", b"a:4d", b"1:" + b"00" * 65, b'1:"', b"+1:-")
+NO_NUMBERS = (
+    b"-1", b"+1", b"1.0", b"1_0", b"0x1", b"a", b"1a", b"a1", b'"1"', b"-", b"/", b":", b"9" * 20, b"0" * 21, b"0" * 20 + b"1", b"9" * 40,
+)
+NO_NAMES = (
+    b"00" * 65, b'"' + b"n" * 65 + b'"', b"256:4d", b"1:", b":4d", b":", b"-1:4d", b"1:2:4d", b"a:4d", b"1:" + b"00" * 65, b'1:"', b"+1:-",
+)
 NO_NAMES += (b"0" * 21 + b":-", b'"a":4d', b"1:4", b"1:-0", b'1:"a', b"1::4d", b"00" * 200, b"1 :4d", b"999:-", b"9" * 20 + b":-")
-NAMES = (b"-", b'""', b"255:-", b"0:-", b'0:""', b'5:""', b"0:" + b"5a" * 64, b"64:" + b"5A" * 64, b"65:" + b"5a" * 64, b"5a" * 64, b'"a:b"', b'3:"a:b"')
-NAMES += (b"0" * 18 + b"02:4d31", b"7:4D5f", b'"' + b"~" * 64 + b'"', b'"!#$%&\'()*+,-./:;<=>?@[]^_`{|}~"', b'"-"', b'2:"4d31"', b"001:4d31", b'1:"#"')
+NAMES = (
+    b"-", b'""', b"255:-", b"0:-", b'0:""', b'5:""', b"0:" + b"5a" * 64, b"64:" + b"5A" * 64, b"65:" + b"5a" * 64, b"5a" * 64, b'"a:b"',
+    b'3:"a:b"',
+)
+NAMES += (
+    b"0" * 18 + b"02:4d31", b"7:4D5f", b'"' + b"~" * 64 + b'"', b'"!#$%&\'()*+,-./:;<=>?@[]^_`{|}~"', b'"-"', b'2:"4d31"', b"001:4d31",
+    b'1:"#"',
+)
 OCTETS = (b"-", b'""', b"4D", b"4d", b'"!#~"', b'"0:"', b"aBcDeF0123456789", b'"' + b"x" * 65 + b'"', b"00" * 65)
 
 
@@ -43,7 +53,9 @@ def wrong(kind):
     if kind == "octets":
         return NO_OCTETS
     if kind == "address":
-        return (*NO_OCTETS, b"-", b'""', b"0200000000", b"02000000000a0b", b'"abcde"', b'"abcdefg"', b"6:02000000000a", b"02:00:00:00:00:0a")
+        return (
+            *NO_OCTETS, b"-", b'""', b"0200000000", b"02000000000a0b", b'"abcde"', b'"abcdefg"', b"6:02000000000a", b"02:00:00:00:00:0a",
+        )
     if kind == "name":
         return (*NO_OCTETS[:-2], *NO_NAMES)
     return (*NO_NUMBERS, b"%d" % (1 << kind), b"%d" % ((1 << kind) + 7), b"%d0" % (1 << kind))
@@ -83,8 +95,13 @@ def bad_lines():
         for at, kind in enumerate(kinds):
             yield from (line(name, kinds, at, word) for word in wrong(kind))
             yield b" ".join(whole[: at + 1] + [b"?"])
-    yield from (b"New", b"news", b"ne", b"inspect", b"inspect_sv_ 1", b'"new"', b"-", b"new,", b"reset\x00", b"set", b"\x0bnew", b"x" * 1000, b"0", b"totals#")
-    yield from (b"new\x0c", b"\xef\xbb\xbfnew", b"SERVICE 1", b"service_ 1", b"servic 1", b"inspect-sv", b"add_rule 1 1 1", b"parse_goose 1 00")
+    yield from (
+        b"New", b"news", b"ne", b"inspect", b"inspect_sv_ 1", b'"new"', b"-", b"new,", b"reset\x00", b"set", b"\x0bnew", b"x" * 1000, b"0",
+        b"totals#",
+    )
+    yield from (
+        b"new\x0c", b"\xef\xbb\xbfnew", b"SERVICE 1", b"service_ 1", b"servic 1", b"inspect-sv", b"add_rule 1 1 1", b"parse_goose 1 00",
+    )
 
 
 # Well formed lines of every call with an unusual argument.
@@ -101,8 +118,14 @@ def filled(size, call=b"totals"):
 
 # Scripts about the layout of lines and the end of the script.
 def layouts():
-    yield from (b"", b"\n", b" \t\r\n", b"#", b"# only\n#this", b"\n\n\ntotals", b"totals", b"totals\n", b"totals\n\n", b"totals\n#end", b"totals\n  ")
-    yield from (b"\t totals\r\n \r\n\tservice\t8 \r\n", b"service\r8\rtotals\n", b"  #x\n#\xff\xfe\x00\ntotals\n", b"#new 1 2 3\nnew\n", b"totals\rnew\n")
+    yield from (
+        b"", b"\n", b" \t\r\n", b"#", b"# only\n#this", b"\n\n\ntotals", b"totals", b"totals\n", b"totals\n\n", b"totals\n#end",
+        b"totals\n  ",
+    )
+    yield from (
+        b"\t totals\r\n \r\n\tservice\t8 \r\n", b"service\r8\rtotals\n", b"  #x\n#\xff\xfe\x00\ntotals\n", b"#new 1 2 3\nnew\n",
+        b"totals\rnew\n",
+    )
     for size in (LONGEST_LINE - 1, LONGEST_LINE, LONGEST_LINE + 1, 2 * LONGEST_LINE, 3 * LONGEST_LINE):
         for end in (b"", b"\n", b"\nservice 8\n"):
             yield b"totals\n" + filled(size) + end

@@ -19,7 +19,9 @@ def refusals():
     group = "refusal"
     for kind, most in (("mms_rule", "MMS_RULES"), ("goose_publisher", "GOOSE_PUBLISHERS"), ("sv_publisher", "SV_PUBLISHERS")):
         yield Place(group, f" 1 add_{kind} on 16", f"fn add_{kind}(", f"if self.{kind}_count as usize >= MAX_{most} {{")
-    yield Place(group, " 2 add_goose_publisher, name over 64 octets", "fn add_goose_publisher(", "if go_cb_ref.len() > MAX_GOOSE_GOCBREF_LEN {")
+    yield Place(
+        group, " 2 add_goose_publisher, name over 64 octets", "fn add_goose_publisher(", "if go_cb_ref.len() > MAX_GOOSE_GOCBREF_LEN {",
+    )
     yield Place(group, " 2 add_sv_publisher, name over 64 octets", "fn add_sv_publisher(", "if svid.len() > MAX_SV_SVID_LEN {")
     yield from mms_refusals(group)
     yield from goose_refusals(group)
@@ -87,8 +89,14 @@ def releases(group):
     found, whole = "                *entry = CbReservation::empty();\n                return;", "if cb_ref_len == 0 || cb_ref.is_empty() {"
     begin = "        for entry in &mut self.cb_reservations {\n            if entry.matches_ref"
     yield Place(group, "release by name", where, found, "", BEFORE)
-    yield Place(group, "release by name, of another client, refused", where, begin, f"{THIS_KIND} && !{OWN} && e.matches_ref(cb_ref, cb_ref_len, is_goose))", BEFORE)
-    yield Place(group, "release by name, kind differs", where, begin, f"{OTHER_ONLY} && {OWN} && e.matches_ref(cb_ref, cb_ref_len, !is_goose))", BEFORE)
+    yield Place(
+        group, "release by name, of another client, refused", where, begin,
+        f"{THIS_KIND} && !{OWN} && e.matches_ref(cb_ref, cb_ref_len, is_goose))", BEFORE,
+    )
+    yield Place(
+        group, "release by name, kind differs", where, begin, f"{OTHER_ONLY} && {OWN} && e.matches_ref(cb_ref, cb_ref_len, !is_goose))",
+        BEFORE,
+    )
     yield Place(group, "release by name, not reserved", where, begin, f"!{THIS_KIND} && !{OTHER_KIND}", BEFORE)
     yield Place(group, "release all by the empty name", where, whole, f"{OWN})")
     yield Place(group, "release all, of both kinds", where, whole, f"{OWN} && e.is_goose) && {OWN} && !e.is_goose)")
@@ -102,36 +110,64 @@ def uses(group):
     empty = "self.cb_reservations.iter().any(|e| e.active && {}e.is_goose && e.cb_ref_len == 0)"
     for kind, test in (("GOOSE", "is_goose"), ("SV", "!is_goose")):
         yield Place(group, f"first use binds, {kind}", where, "if !entry.bound {", test)
-        yield Place(group, f"use by the bound address, {kind}", where, "return entry.bound_src_mac != src_mac;", f"{test} && entry.bound_src_mac == src_mac", BEFORE)
-        yield Place(group, f"hijack, {kind}", where, "return entry.bound_src_mac != src_mac;", f"{test} && entry.bound_src_mac != src_mac", BEFORE)
+        yield Place(
+            group, f"use by the bound address, {kind}", where, "return entry.bound_src_mac != src_mac;",
+            f"{test} && entry.bound_src_mac == src_mac", BEFORE,
+        )
+        yield Place(
+            group, f"hijack, {kind}", where, "return entry.bound_src_mac != src_mac;", f"{test} && entry.bound_src_mac != src_mac", BEFORE,
+        )
         yield Place(group, f"use, kind differs, {kind}", where, now, f"{test} && {OTHER_ONLY}")
     yield Place(group, "empty name reserved, not looked up, GOOSE", where, "if cb_ref_len == 0 {", empty.format(""))
-    yield Place(group, "empty name reserved, not looked up, SV", "fn inspect_sv(", "        if cb_len > 0\n", "cb_len == 0 && " + empty.format("!"), BEFORE)
+    yield Place(
+        group, "empty name reserved, not looked up, SV", "fn inspect_sv(", "        if cb_len > 0\n", "cb_len == 0 && " + empty.format("!"),
+        BEFORE,
+    )
 
 
 def rules():
     group, where = "rules", "fn inspect_mms("
     yield Place(group, "MMS, FFFF fits a raw number of 16 or above", where, "matched = Some(i);", "svc >= 16")
     yield Place(group, "MMS, a later rule applies", where, "matched = Some(i);", "i > 0")
-    yield Place(group, "MMS, none applies, not strict", where, "if let Some(rule_idx) = matched {", "matched.is_none() && !self.strict_mode && self.mms_rule_count > 0", BEFORE)
+    yield Place(
+        group, "MMS, none applies, not strict", where, "if let Some(rule_idx) = matched {",
+        "matched.is_none() && !self.strict_mode && self.mms_rule_count > 0", BEFORE,
+    )
     yield Place(group, "MMS, stated length above 64", where, "match frame.service_type {", "frame.domain_len > 64", BEFORE)
-    yield Place(group, "GOOSE, empty name of the rule fits", "fn matches(&self, src_mac: [u8; 6]", "if self.go_cb_ref_len == 0 {", "go_cb_ref_len > 0")
+    yield Place(
+        group, "GOOSE, empty name of the rule fits", "fn matches(&self, src_mac: [u8; 6]", "if self.go_cb_ref_len == 0 {",
+        "go_cb_ref_len > 0",
+    )
     yield Place(group, "GOOSE, stated length above 64", "fn inspect_goose(", "// Test flag blocking.", "frame.go_cb_ref_len > 64", BEFORE)
     yield Place(group, "SV, a second rule fits name and address", "fn inspect_sv(", "mac_ok = true;", "mac_ok", BEFORE)
-    yield Place(group, "SV, svID not registered, not strict", "fn inspect_sv(", "if !matched_svid && self.strict_mode {", "!matched_svid && !self.strict_mode", BEFORE)
+    yield Place(
+        group, "SV, svID not registered, not strict", "fn inspect_sv(", "if !matched_svid && self.strict_mode {",
+        "!matched_svid && !self.strict_mode", BEFORE,
+    )
     yield Place(group, "SV, stated length of the svID above 64", "fn inspect_sv(", "let svid_bytes =", "frame.svid_len > 64", BEFORE)
-    yield Place(group, "SV, stated length of the data set above 64", "fn inspect_sv(", "let svid_bytes =", "frame.dataset_ref_len > 64", BEFORE)
+    yield Place(
+        group, "SV, stated length of the data set above 64", "fn inspect_sv(", "let svid_bytes =", "frame.dataset_ref_len > 64", BEFORE,
+    )
 
 
 def buckets():
     group, where = "bucket", "fn try_consume("
     yield Place(group, "new, holds capacity - 1", "fn rate_check(", "let slot = first_free.unwrap_or(lru_idx);")
-    yield Place(group, "known, of another capacity than the rule's", "fn rate_check(", "b.last_used = now_tick;", "b.capacity != max_rate", BEFORE)
+    yield Place(
+        group, "known, of another capacity than the rule's", "fn rate_check(", "b.last_used = now_tick;", "b.capacity != max_rate", BEFORE,
+    )
     yield Place(group, "an earlier clock fills it", where, "if now_us < self.last_refill_us {")
-    yield Place(group, "product past 64 bits", where, "let elapsed = now_us - self.last_refill_us;", "elapsed.checked_mul(self.capacity as u64).is_none()")
+    yield Place(
+        group, "product past 64 bits", where, "let elapsed = now_us - self.last_refill_us;",
+        "elapsed.checked_mul(self.capacity as u64).is_none()",
+    )
     yield Place(group, "no refill, time kept", where, "if refill > 0 {", "refill == 0 && elapsed > 0", BEFORE)
-    yield Place(group, "refill below capacity", where, "if refill > 0 {", "(self.tokens as u64).saturating_add(refill) < self.capacity as u64")
-    yield Place(group, "refill to capacity at most", where, "if refill > 0 {", "(self.tokens as u64).saturating_add(refill) > self.capacity as u64")
+    yield Place(
+        group, "refill below capacity", where, "if refill > 0 {", "(self.tokens as u64).saturating_add(refill) < self.capacity as u64",
+    )
+    yield Place(
+        group, "refill to capacity at most", where, "if refill > 0 {", "(self.tokens as u64).saturating_add(refill) > self.capacity as u64",
+    )
     yield Place(group, "one token taken", where, "if self.tokens > 0 {")
     yield Place(group, "no token", where, "if self.tokens > 0 {", "self.tokens == 0", BEFORE)
 
@@ -147,7 +183,10 @@ def goose_streams():
     yield Place(group, "equal sqNum", where, "if seq_num == entry.last_sq_num {")
     yield Place(group, "lower sqNum", where, lower)
     yield Place(group, "higher sqNum", where, lower + "\n                    return Some(true);\n                }")
-    yield Place(group, "enforced, earlier time, not checked", retx, "let entry = self.goose_seq_table[prev];", repeated + " && frame.timestamp_us < entry.last_seen_us")
+    yield Place(
+        group, "enforced, earlier time, not checked", retx, "let entry = self.goose_seq_table[prev];",
+        repeated + " && frame.timestamp_us < entry.last_seen_us",
+    )
     yield Place(group, "enforced, distance cut to 32 bits", retx, observed, "frame.timestamp_us - entry.last_seen_us > u32::MAX as u64")
     yield Place(group, "enforced, too early", retx, "retx_anomaly = true;", "observed < u64::from(expected)")
     yield Place(group, "enforced, too late", retx, "retx_anomaly = true;", "observed > u64::from(expected)")
@@ -163,7 +202,10 @@ def clocks():
     yield Place(group, "equal seconds, earlier fraction", where, back, "t_secs == entry.last_t_seconds", BEFORE)
     yield Place(group, "ahead by the limit", where, delta, "delta == self.time_max_forward_jump_s")
     yield Place(group, "ahead by more than the limit", where, "if delta > self.time_max_forward_jump_s {")
-    yield Place(group, "ahead, no limit", where, "// Forward jump beyond configured threshold.", "self.time_max_forward_jump_s == 0 && t_secs > entry.last_t_seconds", BEFORE)
+    yield Place(
+        group, "ahead, no limit", where, "// Forward jump beyond configured threshold.",
+        "self.time_max_forward_jump_s == 0 && t_secs > entry.last_t_seconds", BEFORE,
+    )
 
 
 def sv_streams():
@@ -216,18 +258,29 @@ def wrappers(group):
 def fields(group):
     where, time = "fn decode_sv_apdu(", "0x84 => {"
     yield Place(group, "svID again, shorter", where, "svid_len = content.len() as u8;", "(svid_len as usize) > content.len()", BEFORE)
-    yield Place(group, "data set again, shorter", where, "dataset_ref_len = content.len() as u8;", "(dataset_ref_len as usize) > content.len()", BEFORE)
+    yield Place(
+        group, "data set again, shorter", where, "dataset_ref_len = content.len() as u8;", "(dataset_ref_len as usize) > content.len()",
+        BEFORE,
+    )
     yield Place(group, "smpCnt again", where, "found_smp_cnt = true;", "found_smp_cnt", BEFORE)
     yield Place(group, "time of 0 to 3 octets", where, time, "content.len() < 4")
     yield Place(group, "time of 4 to 6 octets", where, time, "content.len() >= 4 && content.len() < 7")
     yield Place(group, "time of 7 octets or more", where, time, "content.len() >= 7")
-    yield Place(group, "time again, without a fraction", where, time, "content.len() >= 4 && content.len() < 7 && t_fraction_of_second != 0")
+    yield Place(
+        group, "time again, without a fraction", where, time, "content.len() >= 4 && content.len() < 7 && t_fraction_of_second != 0",
+    )
     yield Place(group, "other tag skipped", where, "            _ => {")
     yield Place(group, "unreadable: svID over 64 octets", where, "if content.len() > MAX_SV_SVID_LEN {")
     yield Place(group, "unreadable: data set over 64 octets", where, "if content.len() > MAX_SV_DATASET_REF_LEN {")
     yield Place(group, "unreadable: smpCnt not of 2 octets", where, "if content.len() != 2 {")
-    yield Place(group, "unreadable: rate of no octets", "fn decode_unsigned_int(", "if content.is_empty() || content.len() > 4 {", "content.is_empty()")
-    yield Place(group, "unreadable: rate over 4 octets", "fn decode_unsigned_int(", "if content.is_empty() || content.len() > 4 {", "content.len() > 4")
+    yield Place(
+        group, "unreadable: rate of no octets", "fn decode_unsigned_int(", "if content.is_empty() || content.len() > 4 {",
+        "content.is_empty()",
+    )
+    yield Place(
+        group, "unreadable: rate over 4 octets", "fn decode_unsigned_int(", "if content.is_empty() || content.len() > 4 {",
+        "content.len() > 4",
+    )
     yield Place(group, "unreadable: rate above 65535", "fn decode_unsigned_int(", "if acc > u16::MAX as u32 {")
     yield Place(group, "unreadable: no smpCnt", where, "if !found_smp_cnt {")
 
@@ -244,7 +297,9 @@ def elements(group):
         ("content past the end", "if content_end > bytes.len() {", "true"),
     )
     for (why, text, test), level in reasons_at_levels(reasons):
-        yield Place(group, f"unreadable: {why}, in {LEVELS[level]}", "fn parse_tlv(", text, f"{test} && vs_types_ind::counted::at_level({level})")
+        yield Place(
+            group, f"unreadable: {why}, in {LEVELS[level]}", "fn parse_tlv(", text, f"{test} && vs_types_ind::counted::at_level({level})",
+        )
     longer = "acc < 128 || n > 2 || (n == 2 && acc < 256)"
     yield Place(group, "length in more octets than needed", "fn parse_tlv(", "(acc as usize, 1 + n)", longer, BEFORE)
 

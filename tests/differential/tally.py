@@ -9,7 +9,9 @@ import places
 CALLS = "new new_strict reset totals set_mms_service_mask set_mms_read_only set_block_test_frames set_sv_max_smp_cnt_gap set_retx_schedule"
 CALLS += " set_time_max_forward_jump_s add_mms_rule add_goose_publisher add_sv_publisher inspect_mms inspect_goose inspect_sv inspect_raw_sv"
 CALLS = (CALLS + " parse_sv service interval bucket").split()
-SV_RESULTS = ("allowed", "allowed Medium:27", "refused Medium:6", "refused High:28", "refused High:29", "refused High:26", "refused High:31")
+SV_RESULTS = (
+    "allowed", "allowed Medium:27", "refused Medium:6", "refused High:28", "refused High:29", "refused High:26", "refused High:31",
+)
 SV_RESULTS += ("refused Medium:27", "refused Medium:27 Medium:27", "refused High:31 High:26", "refused High:31 Medium:27")
 SV_RESULTS += ("refused High:31 Medium:27 Medium:27",)
 # The verdicts that each inspection can give, each with the severities and codes of its alerts.
