@@ -1,12 +1,8 @@
--- TODO
+-- `replay::main` is safe and ends. The measure is the number of turns that are left. Nothing has to hold from turn to turn, so the
+-- invariant is `Unit {0}`, the fact that says nothing. Assumes nothing.
 use borrow.Author.Needs.{needs}
 use Rattle.replay.proofs.main.Statement.{statement}
 use Rattle.replay.proofs.main.Tie as tie
-use Rattle.inspection.proofs.monitor.Iec61850Monitor.new.Reads as new-reads
-use Rattle.replay.proofs.answer_call.Reads as answer-call-reads
-use Rattle.replay.proofs.new_run.Reads as new-run-reads
-use Rattle.replay.proofs.next_call.Reads as next-call-reads
-use Rattle.replay.proofs.write_last.Reads as write-last-reads
 
 abbrev Inv-loop : tie.InvT-loop
 Inv-loop buffer₀ call₀ output₀ monitor₀ run₀ turns₀ buffer call output monitor run turns = Unit {0}

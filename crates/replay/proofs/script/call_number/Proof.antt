@@ -1,9 +1,9 @@
--- TODO
+-- `replay::script::call_number` is safe and ends. The loop's invariant: the number is at most that of the calls. The measure is how many
+-- calls are left. Assumes nothing.
 use Prim.Native.Nat.{_≤_, _-_}
 use borrow.Author.Needs.{needs}
 use Rattle.replay.proofs.script.call_number.Statement.{statement}
 use Rattle.replay.proofs.script.call_number.Tie as tie
-use Rattle.replay.proofs.script.is_name.Reads as is-name-reads
 
 abbrev Inv-loop : tie.InvT-loop
 Inv-loop word number₀ number = number ≤ 21

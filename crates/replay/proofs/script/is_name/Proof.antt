@@ -1,10 +1,10 @@
--- TODO
+-- `replay::script::is_name` stays within the word. The loop's invariant: it has read at most the word. The measure is what is left of
+-- it. Assumes nothing.
 use Prim.Native.Nat.{_≤_, _-_}
 use lib.ListN.{length}
 use borrow.Author.Needs.{needs}
 use Rattle.replay.proofs.script.is_name.Statement.{statement}
 use Rattle.replay.proofs.script.is_name.Tie as tie
-use Rattle.wire.proofs.number.octet_at.Reads as octet-at-reads
 
 abbrev Inv-loop : tie.InvT-loop
 Inv-loop row word i₀ i = i ≤ length word

@@ -1,14 +1,11 @@
--- TODO
+-- `replay::script::store_arguments` stays within the line, the kinds and the record. The loop's invariant: each of the three places is so,
+-- and the record has kept its length. The measure is the number of kinds that are left. Assumes nothing.
 use Prim.Native.Nat.{_≤_, _-_}
 use mathlib.Core.Path.{_≡_}
 use lib.ListN.{length}
 use borrow.Author.Needs.{needs}
 use Rattle.replay.proofs.script.store_arguments.Statement.{statement}
 use Rattle.replay.proofs.script.store_arguments.Tie as tie
-use Rattle.replay.proofs.store.store_argument.Reads as store-argument-reads
-use Rattle.replay.proofs.words.word_end.Reads as word-end-reads
-use Rattle.replay.proofs.words.word_start.Reads as word-start-reads
-use Rattle.wire.proofs.number.octet_at.Reads as octet-at-reads
 
 abbrev Inv-loop : tie.InvT-loop
 Inv-loop kinds line at call₀ start end₀ from₀ k₀ call end from k = (end ≤ length call) × (from ≤ length line) × (k ≤ length kinds) × (length call ≡ length call₀)
