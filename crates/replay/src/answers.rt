@@ -3,8 +3,9 @@
 ghost use Prim.Native.Nat.{_≤_};
 ghost use lib.ListN.{length};
 ghost use Rattle.io.specs.Counts.{Counts};
-use crate::names::put_code;
-use crate::names::put_severity;
+use crate::names::code_name;
+use crate::names::put_name;
+use crate::names::severity_name;
 use crate::script::Line;
 use crate::text::put_flag;
 use crate::text::put_hex;
@@ -108,9 +109,11 @@ fn put_alert_kind(line: &mut [u8], at: usize, slot: CodedAlert) -> usize
     let alert = slot.alert;
     let code = slot.code;
     let severity = alert.severity;
+    let name = code_name(code);
+    let word = severity_name(severity);
     let start = put_number(line, at, b" [", code.code() as u64);
-    let middle = put_code(line, start, code);
-    put_severity(line, middle, severity)
+    let middle = put_name(line, start, &name);
+    put_name(line, middle, &word)
 }
 
 // Puts an alert with its code, and whether its hash has an octet other than 0.
@@ -188,7 +191,7 @@ pub fn put_added(line: &mut [u8], at: usize, answer: Added) -> usize
 }
 
 // Puts a name's stated length and all its octets.
-fn put_name(line: &mut [u8], at: usize, len: u8, name: &[u8]) -> usize
+fn put_stated(line: &mut [u8], at: usize, len: u8, name: &[u8]) -> usize
     requires { ⌜ at ≤ length (now line) ⌝ }
     ensures { λ r. ⌜ Counts r (now (line .exit)) ⌝ }
 {
@@ -202,7 +205,7 @@ fn put_first_fields(line: &mut [u8], at: usize, frame: SvFrame) -> usize
     ensures { λ r. ⌜ Counts r (now (line .exit)) ⌝ }
 {
     let mut end = put_hex(line, at, &frame.src_mac);
-    end = put_name(line, end, frame.svid_len, &frame.svid);
+    end = put_stated(line, end, frame.svid_len, &frame.svid);
     end = put_number(line, end, b" ", frame.smp_cnt as u64);
     put_number(line, end, b" ", frame.smp_rate as u64)
 }
@@ -214,7 +217,7 @@ fn put_last_fields(line: &mut [u8], at: usize, frame: SvFrame) -> usize
 {
     let seconds = frame.t_seconds_since_epoch as u64;
     let fraction = frame.t_fraction_of_second as u64;
-    let mut end = put_name(line, at, frame.dataset_ref_len, &frame.dataset_ref);
+    let mut end = put_stated(line, at, frame.dataset_ref_len, &frame.dataset_ref);
     end = put_number(line, end, b" ", frame.timestamp_us);
     end = put_number(line, end, b" ", seconds);
     put_number(line, end, b" ", fraction)
@@ -278,24 +281,43 @@ pub fn put_bucket(line: &mut [u8], at: usize, called: BucketCall) -> usize
     put_number(line, end, b" ", bucket.last_refill_us)
 }
 
-// Puts how many frames of each kind were inspected.
-fn put_inspected(line: &mut [u8], at: usize, m: Iec61850Monitor) -> usize
+// What the readers of a monitor answer.
+pub struct MonitorReadings {
+    mms: u64,
+    goose: u64,
+    sv: u64,
+    alerts: u64,
+    strict: bool,
+}
+
+pub fn readings(m: Iec61850Monitor) -> MonitorReadings {
+    MonitorReadings {
+        mms: m.mms_total_inspected(),
+        goose: m.goose_total_inspected(),
+        sv: m.sv_total_inspected(),
+        alerts: m.total_alerts(),
+        strict: m.strict_mode(),
+    }
+}
+
+// Puts the totals.
+fn put_totals(line: &mut [u8], at: usize, read: MonitorReadings) -> usize
     requires { ⌜ at ≤ length (now line) ⌝ }
     ensures { λ r. ⌜ Counts r (now (line .exit)) ⌝ }
 {
-    let mut end = put_number(line, at, b" totals ", m.mms_total_inspected());
-    end = put_number(line, end, b" ", m.goose_total_inspected());
-    put_number(line, end, b" ", m.sv_total_inspected())
+    let mut end = put_number(line, at, b" totals ", read.mms);
+    end = put_number(line, end, b" ", read.goose);
+    end = put_number(line, end, b" ", read.sv);
+    put_number(line, end, b" ", read.alerts)
 }
 
 // Puts the totals and strict mode, which end every line.
-pub fn put_totals(line: &mut [u8], at: usize, m: Iec61850Monitor) -> usize
+pub fn put_readings(line: &mut [u8], at: usize, read: MonitorReadings) -> usize
     requires { ⌜ at ≤ length (now line) ⌝ }
     ensures { λ r. ⌜ Counts r (now (line .exit)) ⌝ }
 {
-    let mut end = put_inspected(line, at, m);
-    end = put_number(line, end, b" ", m.total_alerts());
-    end = put_flag(line, end, b" strict ", m.strict_mode());
+    let middle = put_totals(line, at, read);
+    let end = put_flag(line, middle, b" strict ", read.strict);
     put_octets(line, end, b"\n")
 }
 

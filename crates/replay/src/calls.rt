@@ -7,9 +7,10 @@ use crate::answers::put_added;
 use crate::answers::put_bucket;
 use crate::answers::put_parsed;
 use crate::answers::put_raw_result;
+use crate::answers::put_readings;
 use crate::answers::put_result;
 use crate::answers::put_service;
-use crate::answers::put_totals;
+use crate::answers::readings;
 use crate::arguments::flag_at;
 use crate::arguments::mac_at;
 use crate::arguments::name_at;
@@ -43,7 +44,8 @@ fn with_totals(m: Iec61850Monitor, line: &mut [u8], at: usize) -> Step
     requires { ⌜ at ≤ length (now line) ⌝ }
     ensures { λ r. ⌜ Counts (r .end) (now (line .exit)) ⌝ }
 {
-    let end = put_totals(line, at, m);
+    let read = readings(m);
+    let end = put_readings(line, at, read);
     Step {
         monitor: m,
         end: end,

@@ -13,6 +13,7 @@ mod words;
 
 use answers::put_malformed;
 use arguments::front;
+use calls::Step;
 use calls::make_call;
 use input::Input;
 use input::behind_line;
@@ -26,13 +27,13 @@ use records::counter::saturating_increment;
 use script::Line;
 use wire::number::least;
 
-// The monitor after some lines, with their number; where the next line stands in the input buffer and the answers end in the output
-// buffer; and whether to go on.
+// How many lines were read; where the next one stands in the input buffer; where the answers end in the output buffer; where the record
+// ends of the call that is to be made, 0 if there is none; and whether to go on.
 struct Run {
-    monitor: Iec61850Monitor,
     lines: u64,
     input: Input,
     end: usize,
+    call_end: usize,
     more: bool,
 }
 
@@ -42,19 +43,7 @@ fn write_answers(output: &[u8], end: usize) -> bool {
     io::write_all(STDOUT_FILENO, &output[0..n])
 }
 
-// Makes a call and puts its answer. An output buffer ends behind its answers: the least of both spares a proof of that.
-fn answer_call(run: Run, call: &[u8], output: &mut [u8]) -> Run {
-    let mut out = run;
-    let monitor = run.monitor;
-    let at = least(run.end, output.len());
-    let step = make_call(monitor, call, output, at);
-    let changed = step.monitor;
-    out.monitor = changed;
-    out.end = step.end;
-    out
-}
-
-// Ends the run at a line that is no call.
+// Ends the run at a line that is no call. Answers never end behind their buffer: the least of both places spares a proof of that.
 fn refuse_line(run: Run, line: Line, output: &mut [u8]) -> Run {
     let mut out = run;
     let at = least(run.end, output.len());
@@ -63,22 +52,25 @@ fn refuse_line(run: Run, line: Line, output: &mut [u8]) -> Run {
     out
 }
 
-// Answers a line, of which a call's record stands at the start of `call`.
-fn answer_line(run: Run, line: Line, call: &[u8], output: &mut [u8]) -> Run {
+// Takes note of a line that was read.
+fn note_line(run: Run, line: Line, output: &mut [u8]) -> Run {
     let mut out = run;
     out.lines = saturating_increment(run.lines);
     match line {
         Line::Skipped => out,
-        Line::Call(end) => answer_call(out, front(call, end), output),
+        Line::Call(end) => {
+            out.call_end = end;
+            out
+        }
         _ => refuse_line(out, line, output),
     }
 }
 
-// Answers the line that no line feed ends, the last.
-fn answer_last(run: Run, buffer: &[u8], call: &mut [u8], output: &mut [u8]) -> Run {
+// Reads the line that no line feed ends, the last.
+fn read_last(run: Run, buffer: &[u8], call: &mut [u8], output: &mut [u8]) -> Run {
     let input = run.input;
     let line = last_line(input, buffer, call);
-    let mut out = answer_line(run, line, call, output);
+    let mut out = note_line(run, line, output);
     out.more = false;
     out
 }
@@ -94,11 +86,11 @@ fn read_on(run: Run, buffer: &mut [u8], call: &mut [u8], output: &mut [u8]) -> R
     if input.searched < input.filled {
         return out;
     }
-    answer_last(out, buffer, call, output)
+    read_last(out, buffer, call, output)
 }
 
-// Answers the next line if the buffer has all of it. If not, reads on.
-fn take_turn(run: Run, buffer: &mut [u8], call: &mut [u8], output: &mut [u8]) -> Run {
+// Reads the next line if the buffer has all of it. If not, reads on.
+fn read_next(run: Run, buffer: &mut [u8], call: &mut [u8], output: &mut [u8]) -> Run {
     let mut out = run;
     let places = run.input;
     let input = find_line(places, buffer);
@@ -109,23 +101,35 @@ fn take_turn(run: Run, buffer: &mut [u8], call: &mut [u8], output: &mut [u8]) ->
     let line = read_found(input, buffer, call);
     let next = behind_line(input);
     out.input = next;
-    answer_line(out, line, call, output)
+    note_line(out, line, output)
 }
 
-// A turn of the loop. Answers are written first if there is no room for another, which has at most 2048 octets.
-fn next_turn(
+// Reads the next line, or writes the answers first if there is no room for another, which has at most 2048 octets.
+fn next_call(
     run: Run,
     buffer: &mut [u8; 262144],
     call: &mut [u8; 262144],
     output: &mut [u8; 65536],
 ) -> Run {
-    if run.end <= 63488 {
-        return take_turn(run, buffer, call, output);
-    }
     let mut out = run;
+    out.call_end = 0;
+    if run.end <= 63488 {
+        return read_next(out, buffer, call, output);
+    }
     out.more = write_answers(output, run.end);
     out.end = 0;
     out
+}
+
+// Makes the call of a record that ends at n, and puts its answer.
+fn answer_call(
+    m: Iec61850Monitor,
+    call: &[u8; 262144],
+    n: usize,
+    output: &mut [u8; 65536],
+    at: usize,
+) -> Step {
+    make_call(m, front(call, n), output, least(at, 65536))
 }
 
 // Writes the answers at the end of the run.
@@ -134,9 +138,7 @@ fn write_last(output: &[u8; 65536], end: usize) {
 }
 
 fn new_run() -> Run {
-    let monitor = Iec61850Monitor::new();
     Run {
-        monitor: monitor,
         lines: 0,
         input: Input {
             start: 0,
@@ -144,6 +146,7 @@ fn new_run() -> Run {
             filled: 0,
         },
         end: 0,
+        call_end: 0,
         more: true,
     }
 }
@@ -154,10 +157,16 @@ fn main() {
     let mut buffer = [0u8; 262144];
     let mut call = [0u8; 262144];
     let mut output = [0u8; 65536];
+    let mut monitor = Iec61850Monitor::new();
     let mut run = new_run();
     let mut turns = u64::MAX;
     while turns > 0 && run.more {
-        run = next_turn(run, &mut buffer, &mut call, &mut output);
+        run = next_call(run, &mut buffer, &mut call, &mut output);
+        if run.call_end > 0 {
+            let step = answer_call(monitor, &call, run.call_end, &mut output, run.end);
+            monitor = step.monitor;
+            run.end = step.end;
+        }
         turns -= 1;
     }
     write_last(&output, run.end);

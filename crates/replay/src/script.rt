@@ -23,70 +23,75 @@ pub enum Line {
 const CALLS: u8 = 21;
 
 // The table of the calls, by number: the name, a space, and the kinds of the arguments. `m` is an address, `n` a name, `f` a flag, a
-// digit a number of so many octets, and `o`, which can only be the last, octets. Answers the octet at a place, 0 behind the row.
-fn row_octet(number: u8, i: usize) -> u8 {
+// digit a number of so many octets, and `o`, which can only be the last, octets.
+fn row(number: u8) -> [u8; 32] {
     match number {
-        0 => octet_at(b"new ", i),
-        1 => octet_at(b"new_strict ", i),
-        2 => octet_at(b"reset ", i),
-        3 => octet_at(b"totals ", i),
-        4 => octet_at(b"set_mms_service_mask 2", i),
-        5 => octet_at(b"set_mms_read_only f", i),
-        6 => octet_at(b"set_block_test_frames f", i),
-        7 => octet_at(b"set_sv_max_smp_cnt_gap 2", i),
-        8 => octet_at(b"set_retx_schedule 441f", i),
-        9 => octet_at(b"set_time_max_forward_jump_s 4", i),
-        10 => octet_at(b"add_mms_rule 2f2", i),
-        11 => octet_at(b"add_goose_publisher mo", i),
-        12 => octet_at(b"add_sv_publisher m2o", i),
-        13 => octet_at(b"inspect_mms 11n484f", i),
-        14 => octet_at(b"inspect_goose mn44f844", i),
-        15 => octet_at(b"inspect_sv mn22n844", i),
-        16 => octet_at(b"inspect_raw_sv 8o", i),
-        17 => octet_at(b"service 1", i),
-        18 => octet_at(b"interval 441444", i),
-        19 => octet_at(b"parse_sv 8o", i),
-        20 => octet_at(b"bucket 2288", i),
-        _ => 0,
+        0 => *b"new                             ",
+        1 => *b"new_strict                      ",
+        2 => *b"reset                           ",
+        3 => *b"totals                          ",
+        4 => *b"set_mms_service_mask 2          ",
+        5 => *b"set_mms_read_only f             ",
+        6 => *b"set_block_test_frames f         ",
+        7 => *b"set_sv_max_smp_cnt_gap 2        ",
+        8 => *b"set_retx_schedule 441f          ",
+        9 => *b"set_time_max_forward_jump_s 4   ",
+        10 => *b"add_mms_rule 2f2                ",
+        11 => *b"add_goose_publisher mo          ",
+        12 => *b"add_sv_publisher m2o            ",
+        13 => *b"inspect_mms 11n484f             ",
+        14 => *b"inspect_goose mn44f844          ",
+        15 => *b"inspect_sv mn22n844             ",
+        16 => *b"inspect_raw_sv 8o               ",
+        17 => *b"service 1                       ",
+        18 => *b"interval 441444                 ",
+        19 => *b"parse_sv 8o                     ",
+        20 => *b"bucket 2288                     ",
+        _ => [b' '; 32],
     }
 }
 
-// Whether a word is the name in a row. A word has no space, so it cannot pass the name.
-fn is_name(number: u8, word: &[u8]) -> bool {
+// Whether a word, which has no space, is the name in a row.
+fn is_name(row: &[u8], word: &[u8]) -> bool {
     let mut i: usize = 0;
     while i < word.len() {
-        if row_octet(number, i) != word[i] {
+        if octet_at(row, i) != word[i] {
             return false;
         }
         i += 1;
     }
-    row_octet(number, word.len()) == b' '
+    octet_at(row, word.len()) == b' '
+}
+
+fn is_call(number: u8, word: &[u8]) -> bool {
+    let text = row(number);
+    is_name(&text, word)
 }
 
 // The number of the call that a word names; `CALLS` if it names none.
 fn call_number(word: &[u8]) -> u8 {
     let mut number: u8 = 0;
-    while number < CALLS && !is_name(number, word) {
+    while number < CALLS && !is_call(number, word) {
         number += 1;
     }
     number
 }
 
-// Stores the arguments of a call, which begin at a place of the line, behind its number; `kinds` is where the row has their kinds.
-fn store_arguments(number: u8, kinds: usize, line: &[u8], at: usize, call: &mut [u8]) -> Line
-    requires { ⌜ kinds ≤ 64 ⌝ }
+// Stores the arguments that stand in a line from a place on, by their kinds, into a record that ends at `start`.
+fn store_arguments(kinds: &[u8], line: &[u8], at: usize, call: &mut [u8], start: usize) -> Line
     requires { ⌜ at ≤ length (now line) ⌝ }
+    requires { ⌜ start ≤ length (now call) ⌝ }
 {
-    let mut end = put_octets(call, 0, &[number]);
+    let mut end = start;
     let mut from = at;
     let mut k: usize = 0;
-    while k < 64 && row_octet(number, kinds + k) != 0 {
-        let start = word_start(line, from);
-        if start == line.len() {
+    while k < kinds.len() && octet_at(kinds, k) != b' ' {
+        let word = word_start(line, from);
+        if word == line.len() {
             return Line::Missing(k + 1);
         }
-        from = word_end(line, start);
-        let stored = store_argument(row_octet(number, kinds + k), &line[start..from], call, end);
+        from = word_end(line, word);
+        let stored = store_argument(kinds[k], &line[word..from], call, end);
         if !stored.good {
             return Line::Malformed(k + 1);
         }
@@ -99,20 +104,31 @@ fn store_arguments(number: u8, kinds: usize, line: &[u8], at: usize, call: &mut 
     Line::Call(end)
 }
 
-// Reads the line whose first word begins and ends at two places. No name has 64 octets.
+// Reads the call of a number, whose name has n octets and ends at a place of the line.
+fn read_arguments(number: u8, n: usize, line: &[u8], at: usize, call: &mut [u8]) -> Line
+    requires { ⌜ n ≤ 31 ⌝ }
+    requires { ⌜ at ≤ length (now line) ⌝ }
+{
+    let text = row(number);
+    let kinds = n + 1;
+    let start = put_octets(call, 0, &[number]);
+    store_arguments(&text[kinds..], line, at, call, start)
+}
+
+// Reads the line whose first word begins and ends at two places. No name has more than 31 octets.
 fn read_call(line: &[u8], start: usize, end: usize, call: &mut [u8]) -> Line
     requires { ⌜ start ≤ end ⌝ }
     requires { ⌜ end ≤ length (now line) ⌝ }
 {
     let n = end - start;
-    if n >= 64 {
+    if n > 31 {
         return Line::UnknownCall;
     }
     let number = call_number(&line[start..end]);
     if number >= CALLS {
         return Line::UnknownCall;
     }
-    store_arguments(number, n + 1, line, end, call)
+    read_arguments(number, n, line, end, call)
 }
 
 // Reads a line into the record.

@@ -42,14 +42,21 @@ pub fn put_flag(line: &mut [u8], at: usize, word: &[u8], flag: bool) -> usize
     put_octets(line, start, b"0")
 }
 
+// The hexadecimal digit of a number below 16.
+fn hex_digit(n: u8) -> u8 {
+    match n {
+        0..=9 => 48 + n,
+        10..=15 => 87 + n,
+        _ => b'?',
+    }
+}
+
 // Puts an octet as two digits.
 fn put_octet(line: &mut [u8], at: usize, octet: u8) -> usize
     requires { ⌜ at ≤ length (now line) ⌝ }
     ensures { λ r. ⌜ Counts r (now (line .exit)) ⌝ }
 {
-    let mut digits = [0u8; 16];
-    let n = io::hex(octet as u64, 2, &mut digits);
-    put_octets(line, at, &digits[..n])
+    put_octets(line, at, &[hex_digit(octet / 16), hex_digit(octet % 16)])
 }
 
 // Puts a space and each octet as two digits.

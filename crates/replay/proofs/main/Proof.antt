@@ -1,16 +1,17 @@
--- TODO
+-- `replay::main` is safe and ends. The measure is the number of turns that are left. Nothing has to hold from turn to turn, so the
+-- invariant is `Unit {0}`, the fact that says nothing. Assumes nothing.
 use borrow.Author.Needs.{needs}
 use Rattle.replay.proofs.main.Statement.{statement}
 use Rattle.replay.proofs.main.Tie as tie
-use Rattle.replay.proofs.new_run.Reads as new-run-reads
-use Rattle.replay.proofs.next_turn.Reads as next-turn-reads
-use Rattle.replay.proofs.write_last.Reads as write-last-reads
 
 abbrev Inv-loop : tie.InvT-loop
-Inv-loop buffer₀ call₀ output₀ run₀ turns₀ buffer call output run turns = Unit {0}
+Inv-loop buffer₀ call₀ output₀ monitor₀ run₀ turns₀ buffer call output monitor run turns = Unit {0}
 
 abbrev μ-loop : tie.MeasureT-loop
-μ-loop buffer₀ call₀ output₀ run₀ turns₀ buffer call output run turns = turns
+μ-loop buffer₀ call₀ output₀ monitor₀ run₀ turns₀ buffer call output monitor run turns = turns
+
+new-requires : tie.Need-new-requires Inv-loop μ-loop
+new-requires c κs = search needs
 
 new-run-requires : tie.Need-new-run-requires Inv-loop μ-loop
 new-run-requires c κs = search needs
@@ -18,8 +19,11 @@ new-run-requires c κs = search needs
 loop-holds : tie.Need-loop-holds Inv-loop μ-loop
 loop-holds c = search needs
 
-next-turn-requires : tie.Need-next-turn-requires Inv-loop μ-loop
-next-turn-requires c κs = search needs
+next-call-requires : tie.Need-next-call-requires Inv-loop μ-loop
+next-call-requires c κs = search needs
+
+answer-call-requires : tie.Need-answer-call-requires Inv-loop μ-loop
+answer-call-requires c κs = search needs
 
 sub-turns : tie.Need-sub-turns Inv-loop μ-loop
 sub-turns c = search needs
@@ -42,9 +46,11 @@ main-spec =
     (tie.spec
     Inv-loop
     μ-loop
+    new-requires
     new-run-requires
     loop-holds
-    next-turn-requires
+    next-call-requires
+    answer-call-requires
     sub-turns
     loop-less
     loop-again

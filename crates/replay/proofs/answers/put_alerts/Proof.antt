@@ -1,4 +1,5 @@
--- TODO
+-- `replay::answers::put_alerts` stays within the line. The loop's invariant: the place to go on at is within the line, which has kept
+-- its length. The measure is the number of slots that are left. Assumes nothing.
 use Prim.Native.Nat.{_≤_, _-_}
 use mathlib.Core.Path.{_≡_}
 use native.Mathlib.Omega.{arith}
@@ -7,7 +8,6 @@ use Rattle.io.proofs.Counting.{counts}
 use borrow.Author.Needs.{needs}
 use Rattle.replay.proofs.answers.put_alerts.Statement.{statement}
 use Rattle.replay.proofs.answers.put_alerts.Tie as tie
-use Rattle.replay.proofs.answers.put_alert.Reads as put-alert-reads
 
 abbrev Inv-loop : tie.InvT-loop
 Inv-loop line₀ at result count end₀ i₀ line end i = (end ≤ length line) × (i ≤ 4) × (length line ≡ length line₀)

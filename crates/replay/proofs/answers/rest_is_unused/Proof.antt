@@ -1,9 +1,9 @@
--- TODO
+-- `replay::answers::rest_is_unused` reads within the slots and ends. The measure is the number of slots that are left; the loop's test
+-- bounds the place, so the invariant says nothing. Assumes nothing.
 use Prim.Native.Nat.{_-_}
 use borrow.Author.Needs.{needs}
 use Rattle.replay.proofs.answers.rest_is_unused.Statement.{statement}
 use Rattle.replay.proofs.answers.rest_is_unused.Tie as tie
-use Rattle.replay.proofs.answers.is_unused.Reads as is-unused-reads
 
 abbrev Inv-loop : tie.InvT-loop
 Inv-loop result unused₀ i₀ unused i = Unit {0}

@@ -1,4 +1,5 @@
--- TODO
+-- `replay::answers::same_hash` reads within the hashes and ends. The loop's invariant: it has read at most 32 octets of each. The
+-- measure is what is left of them. Assumes nothing.
 use Prim.Native.Nat.{_≤_, _-_}
 use borrow.Author.Needs.{needs}
 use Rattle.replay.proofs.answers.same_hash.Statement.{statement}

@@ -1,11 +1,11 @@
--- TODO
+-- `replay::arguments::octets_at` stays within the part and ends. The loop's invariant: it has filled at most the part, which has kept
+-- its length. The measure is what is left of it. Assumes nothing.
 use Prim.Native.Nat.{_≤_, _-_}
 use mathlib.Core.Path.{_≡_}
 use lib.ListN.{length}
 use borrow.Author.Needs.{needs}
 use Rattle.replay.proofs.arguments.octets_at.Statement.{statement}
 use Rattle.replay.proofs.arguments.octets_at.Tie as tie
-use Rattle.wire.proofs.number.octet_at.Reads as octet-at-reads
 
 abbrev Inv-loop : tie.InvT-loop
 Inv-loop call at part₀ i₀ part i = (i ≤ length part₀) × (length part ≡ length part₀)

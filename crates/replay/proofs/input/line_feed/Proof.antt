@@ -1,4 +1,5 @@
--- TODO
+-- `replay::input::line_feed` stays between its places. The loop's invariant says so of the place that it is at. The measure is the
+-- distance to the second place. Assumes nothing.
 use Prim.Native.Nat.{_≤_, _-_}
 use borrow.Author.Needs.{needs}
 use Rattle.replay.proofs.input.line_feed.Statement.{statement}

@@ -1,4 +1,5 @@
--- TODO
+-- `replay::input::move_to_start` stays within the buffer. The loop's invariant: it has moved at most n octets, and the buffer has kept its
+-- length. The measure is what is left of them. Assumes nothing.
 use Prim.Native.Nat.{_≤_, _-_}
 use mathlib.Core.Path.{_≡_}
 use lib.ListN.{length}

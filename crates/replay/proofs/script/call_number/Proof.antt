@@ -1,9 +1,9 @@
--- TODO
+-- `replay::script::call_number` is safe and ends. The loop's invariant: the number is at most that of the calls. The measure is how many
+-- calls are left. Assumes nothing.
 use Prim.Native.Nat.{_≤_, _-_}
 use borrow.Author.Needs.{needs}
 use Rattle.replay.proofs.script.call_number.Statement.{statement}
 use Rattle.replay.proofs.script.call_number.Tie as tie
-use Rattle.replay.proofs.script.is_name.Reads as is-name-reads
 
 abbrev Inv-loop : tie.InvT-loop
 Inv-loop word number₀ number = number ≤ 21
@@ -14,8 +14,8 @@ abbrev μ-loop : tie.MeasureT-loop
 loop-holds : tie.Need-loop-holds Inv-loop μ-loop
 loop-holds c = search needs
 
-is-name-requires : tie.Need-is-name-requires Inv-loop μ-loop
-is-name-requires c κs = search needs
+is-call-requires : tie.Need-is-call-requires Inv-loop μ-loop
+is-call-requires c κs = search needs
 
 add-number : tie.Need-add-number Inv-loop μ-loop
 add-number c = search needs
@@ -39,7 +39,7 @@ call-number-spec =
     Inv-loop
     μ-loop
     loop-holds
-    is-name-requires
+    is-call-requires
     add-number
     loop-less
     loop-again

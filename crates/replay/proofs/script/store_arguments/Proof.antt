@@ -1,42 +1,29 @@
--- TODO
+-- `replay::script::store_arguments` stays within the line, the kinds and the record. The loop's invariant: each of the three places is so,
+-- and the record has kept its length. The measure is the number of kinds that are left. Assumes nothing.
 use Prim.Native.Nat.{_≤_, _-_}
 use mathlib.Core.Path.{_≡_}
 use lib.ListN.{length}
 use borrow.Author.Needs.{needs}
 use Rattle.replay.proofs.script.store_arguments.Statement.{statement}
 use Rattle.replay.proofs.script.store_arguments.Tie as tie
-use Rattle.replay.proofs.script.row_octet.Reads as row-octet-reads
-use Rattle.replay.proofs.store.store_argument.Reads as store-argument-reads
-use Rattle.replay.proofs.text.put_octets.Reads as put-octets-reads
-use Rattle.replay.proofs.words.word_end.Reads as word-end-reads
-use Rattle.replay.proofs.words.word_start.Reads as word-start-reads
 
 abbrev Inv-loop : tie.InvT-loop
-Inv-loop number kinds line at call₀ end₀ from₀ k₀ call end from k = (end ≤ length call) × (from ≤ length line) × (k ≤ 64) × (length call ≡ length call₀)
+Inv-loop kinds line at call₀ start end₀ from₀ k₀ call end from k = (end ≤ length call) × (from ≤ length line) × (k ≤ length kinds) × (length call ≡ length call₀)
 
 abbrev μ-loop : tie.MeasureT-loop
-μ-loop number kinds line at call₀ end₀ from₀ k₀ call end from k = 64 - k
-
-slice-aggregate-put-octets : tie.Need-slice-aggregate-put-octets Inv-loop μ-loop
-slice-aggregate-put-octets c = search needs
-
-put-octets-requires : tie.Need-put-octets-requires Inv-loop μ-loop
-put-octets-requires c κs = search needs
+μ-loop kinds line at call₀ start end₀ from₀ k₀ call end from k = length kinds - k
 
 loop-holds : tie.Need-loop-holds Inv-loop μ-loop
 loop-holds c = search needs
 
-add-row-octet : tie.Need-add-row-octet Inv-loop μ-loop
-add-row-octet c = search needs
-
-row-octet-requires : tie.Need-row-octet-requires Inv-loop μ-loop
-row-octet-requires c κs = search needs
+octet-at-requires : tie.Need-octet-at-requires Inv-loop μ-loop
+octet-at-requires c κs = search needs
 
 word-start-requires : tie.Need-word-start-requires Inv-loop μ-loop
 word-start-requires c κs = search needs
 
-add-t22 : tie.Need-add-t22 Inv-loop μ-loop
-add-t22 c = search needs
+add-t16 : tie.Need-add-t16 Inv-loop μ-loop
+add-t16 c = search needs
 
 same-length : tie.Need-same-length Inv-loop μ-loop
 same-length c = search needs
@@ -47,11 +34,8 @@ returns c = search needs
 word-end-requires : tie.Need-word-end-requires Inv-loop μ-loop
 word-end-requires c κs = search needs
 
-add-row-octet-2 : tie.Need-add-row-octet-2 Inv-loop μ-loop
-add-row-octet-2 c = search needs
-
-row-octet-requires-2 : tie.Need-row-octet-requires-2 Inv-loop μ-loop
-row-octet-requires-2 c κs = search needs
+shared-slice-read-store-argument : tie.Need-shared-slice-read-store-argument Inv-loop μ-loop
+shared-slice-read-store-argument c = search needs
 
 sub-store-argument : tie.Need-sub-store-argument Inv-loop μ-loop
 sub-store-argument c = search needs
@@ -65,8 +49,8 @@ part-store-argument-end c = search needs
 store-argument-requires : tie.Need-store-argument-requires Inv-loop μ-loop
 store-argument-requires c κs = search needs
 
-add-t30 : tie.Need-add-t30 Inv-loop μ-loop
-add-t30 c = search needs
+add-t24 : tie.Need-add-t24 Inv-loop μ-loop
+add-t24 c = search needs
 
 same-length-2 : tie.Need-same-length-2 Inv-loop μ-loop
 same-length-2 c = search needs
@@ -86,8 +70,8 @@ loop-again c = search needs
 word-start-requires-2 : tie.Need-word-start-requires-2 Inv-loop μ-loop
 word-start-requires-2 c κs = search needs
 
-add-t34 : tie.Need-add-t34 Inv-loop μ-loop
-add-t34 c = search needs
+add-t28 : tie.Need-add-t28 Inv-loop μ-loop
+add-t28 c = search needs
 
 same-length-3 : tie.Need-same-length-3 Inv-loop μ-loop
 same-length-3 c = search needs
@@ -107,30 +91,26 @@ store-arguments-spec =
     (tie.spec
     Inv-loop
     μ-loop
-    slice-aggregate-put-octets
-    put-octets-requires
     loop-holds
-    add-row-octet
-    row-octet-requires
+    octet-at-requires
     word-start-requires
-    add-t22
+    add-t16
     same-length
     returns
     word-end-requires
-    add-row-octet-2
-    row-octet-requires-2
+    shared-slice-read-store-argument
     sub-store-argument
     part-store-argument-start
     part-store-argument-end
     store-argument-requires
-    add-t30
+    add-t24
     same-length-2
     returns-2
     add-k
     loop-less
     loop-again
     word-start-requires-2
-    add-t34
+    add-t28
     same-length-3
     returns-3
     same-length-4

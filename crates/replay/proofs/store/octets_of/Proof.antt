@@ -1,4 +1,5 @@
--- TODO
+-- `replay::store::octets_of` stays within the eight octets and ends. The loop's invariant: at most eight are left, and their number is
+-- the measure. Assumes nothing.
 use Prim.Native.Nat.{_≤_}
 use borrow.Author.Needs.{needs}
 use Rattle.replay.proofs.store.octets_of.Statement.{statement}

@@ -1,10 +1,10 @@
--- TODO
+-- `replay::values::decimal` is safe and ends: the test before the sum keeps it within 64 bits. The loop's invariant: it has read at most
+-- the word. The measure is what is left of it. Assumes nothing.
 use Prim.Native.Nat.{_≤_, _-_}
 use lib.ListN.{length}
 use borrow.Author.Needs.{needs}
 use Rattle.replay.proofs.values.decimal.Statement.{statement}
 use Rattle.replay.proofs.values.decimal.Tie as tie
-use Rattle.replay.proofs.values.digit_value.Reads as digit-value-reads
 
 abbrev Inv-loop : tie.InvT-loop
 Inv-loop word value₀ i₀ value i = i ≤ length word

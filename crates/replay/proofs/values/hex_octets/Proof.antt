@@ -1,12 +1,11 @@
--- TODO
+-- `replay::values::hex_octets` stays within the word and the octets. The loop's invariant: it has stored at most n octets, and `out`
+-- has kept its length. The measure is what is left of them. Assumes nothing.
 use Prim.Native.Nat.{_≤_, _-_}
 use mathlib.Core.Path.{_≡_}
 use lib.ListN.{length}
 use borrow.Author.Needs.{needs}
 use Rattle.replay.proofs.values.hex_octets.Statement.{statement}
 use Rattle.replay.proofs.values.hex_octets.Tie as tie
-use Rattle.replay.proofs.values.hex_value.Reads as hex-value-reads
-use Rattle.replay.proofs.values.malformed.Reads as malformed-reads
 
 abbrev Inv-loop : tie.InvT-loop
 Inv-loop word out₀ n i₀ out i = (i ≤ n) × (length out ≡ length out₀)

@@ -1,10 +1,10 @@
--- TODO
+-- `replay::values::name_start` stays within the word. The loop's invariant: it has read at most the word. The measure is what is left
+-- of it. Assumes nothing.
 use Prim.Native.Nat.{_≤_, _-_}
 use lib.ListN.{length}
 use borrow.Author.Needs.{needs}
 use Rattle.replay.proofs.values.name_start.Statement.{statement}
 use Rattle.replay.proofs.values.name_start.Tie as tie
-use Rattle.wire.proofs.number.octet_at.Reads as octet-at-reads
 
 abbrev Inv-loop : tie.InvT-loop
 Inv-loop word i₀ i = i ≤ length word

@@ -1,10 +1,10 @@
--- TODO
+-- `replay::words::word_end` answers a place between its own and the line's end. The loop's invariant says so of the place that it is at.
+-- The measure is what is left of the line. Assumes nothing.
 use Prim.Native.Nat.{_≤_, _-_}
 use lib.ListN.{length}
 use borrow.Author.Needs.{needs}
 use Rattle.replay.proofs.words.word_end.Statement.{statement}
 use Rattle.replay.proofs.words.word_end.Tie as tie
-use Rattle.replay.proofs.words.is_separator.Reads as is-separator-reads
 
 abbrev Inv-loop : tie.InvT-loop
 Inv-loop line at i₀ i = (at ≤ i) × (i ≤ length line)

@@ -1,10 +1,10 @@
--- TODO
+-- `replay::words::word_start` answers a place within the line. The loop's invariant says so of the place that it is at. The measure is
+-- what is left of the line. Assumes nothing.
 use Prim.Native.Nat.{_≤_, _-_}
 use lib.ListN.{length}
 use borrow.Author.Needs.{needs}
 use Rattle.replay.proofs.words.word_start.Statement.{statement}
 use Rattle.replay.proofs.words.word_start.Tie as tie
-use Rattle.replay.proofs.words.is_separator.Reads as is-separator-reads
 
 abbrev Inv-loop : tie.InvT-loop
 Inv-loop line at i₀ i = i ≤ length line
