@@ -1,11 +1,6 @@
-#!/usr/bin/env python3
-# Makes records of sampled-values frames, good and bad, to compare two readers by. The same seed gives the same records.
-#     frames.py SEED COUNT [KINDS] > FILE     COUNT records or more; KINDS gets a line "NAME HOW-MANY" for each kind, in order
-#     frames.py --sample SEED EACH > FILE     EACH records of every kind, all of the kind "reasons", and at the end a cut one
-# A record: 2 octets frame length, 8 octets time, most significant first, then the frame.
+# Makers of sampled-values frames, good and damaged, for the calls parse_sv and inspect_raw_sv. LISTED makers end by themselves, ENDLESS ones
+# do not; each takes a source of chance, and yields the octets of a frame.
 import itertools
-import random
-import sys
 
 FIELDS = (0x80, 0x81, 0x82, 0x84, 0x86)
 TAGS = FIELDS + (0x30, 0x60, 0xA2, 0x83, 0x85, 0x87, 0x88, 0x00, 0x02, 0x1E, 0x1F, 0x3F, 0x9F, 0xBF, 0xFF, 0xA0, 0xA1, 0x61)
@@ -111,6 +106,8 @@ def header_reasons():
         yield frame(bytes.fromhex(apdu))
     for apdu in (b"\x80\x05\x01" + tlv(0xA2, count), b"\x1f\x00" + tlv(0xA2, count), tlv(0xA2, b"\x30")):
         yield frame(apdu)
+    for bad in map(bytes.fromhex, ("81", "8200", "830000", "8400", "80", "85", "83010000", "84ffffffff", "05", "8105")):
+        yield from (frame(b"\x60" + bad), frame(b"\x80" + bad), frame(tlv(0xA2, b"\x30" + bad)), around(count + b"\x87" + bad))
 
 
 # A few frames for each rule about a field.
@@ -248,7 +245,7 @@ def large(rng):
         for tag in (0x84, 0x87, 0x80):
             yield frame(tlv(0xA2, count + tlv(tag, bytes(max(0, total - 20)), further), further))
             yield frame(tlv(tag, bytes(max(0, total - 30)), further) + tlv(0xA2, count))
-    for pad in (0, 1, 65535 - 39 - 1, 65535 - 39):
+    for pad in (0, 1, 65535 - 39 - 1, 65535 - 39, 65536, 131_000 - 39):
         yield DOCUMENT + bytes(pad)
     for stated in (65507, 65508, 65520, 65521, 65522, 65535):
         yield DOCUMENT[:16] + stated.to_bytes(2, "big") + DOCUMENT[18:] + bytes(65535 - 39)
@@ -374,59 +371,3 @@ def trees(rng):
 
 LISTED = (reasons, heads, bare_heads, cuts, spans, damaged, document, first_lengths, large, ethertypes, header_lengths)
 ENDLESS = (repeats, structures, long_forms, noise, twice_damaged, trees)
-
-
-# A time: a boundary, or of any size.
-def time(rng):
-    if rng.random() < 0.05:
-        return rng.choice((0, 1, (1 << 32) - 1, 1 << 32, (1 << 63) - 1, 1 << 63, (1 << 64) - 2, (1 << 64) - 1))
-    return rng.getrandbits(rng.randrange(1, 65))
-
-
-# A frame as a record.
-def record(rng, octets):
-    octets = octets[:0xFFFF]
-    return len(octets).to_bytes(2, "big") + time(rng).to_bytes(8, "big") + octets
-
-
-# The kinds, each with its own source of chance, and with how many of it are wanted where it does not end by itself.
-def kinds(seed, count):
-    for make in LISTED:
-        rng = random.Random(f"{seed} {make.__name__}")
-        records = [record(rng, f) for f in make(rng)]
-        count -= len(records)
-        yield make.__name__, records
-    each = max(0, -(-count // len(ENDLESS)))
-    for make in ENDLESS:
-        rng = random.Random(f"{seed} {make.__name__}")
-        yield make.__name__, (record(rng, f) for f in itertools.islice(make(rng), each))
-
-
-# Writes some records of every kind, all of the first, and at the end one that is cut.
-def sample(seed, each, out):
-    chance = random.Random(f"{seed} sample")
-    for name, records in kinds(seed, 250_000):
-        chosen = list(records)
-        if name != "reasons":
-            short = [r for r in chosen if len(r) < 400]
-            chosen = chance.sample(short, min(each, len(short)))
-        out.write(b"".join(chosen))
-    out.write(record(chance, DOCUMENT)[:-1])
-
-
-# Writes what the words of the command ask for.
-def main(words):
-    out = sys.stdout.buffer
-    if words[:1] == ["--sample"]:
-        return sample(words[1], int(words[2]), out)
-    table = open(words[2], "w") if len(words) > 2 else None
-    for name, records in kinds(words[0], int(words[1])):
-        n = 0
-        for n, octets in enumerate(records, 1):
-            out.write(octets)
-        if table:
-            table.write(f"{name} {n}\n")
-
-
-if __name__ == "__main__":
-    main(sys.argv[1:])

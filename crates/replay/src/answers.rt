@@ -1,7 +1,12 @@
-// The text of an answer: every field of a result, of a frame that was read, and of the totals.
+// The text of an answer: every field of a result, of a frame that was read, and of the totals. docs/SCRIPT.md says how they are
+// written.
 ghost use Prim.Native.Nat.{_≤_};
 ghost use lib.ListN.{length};
 ghost use Rattle.io.specs.Counts.{Counts};
+use crate::names::code_name;
+use crate::names::put_name;
+use crate::names::severity_name;
+use crate::script::Line;
 use crate::text::put_flag;
 use crate::text::put_hex;
 use crate::text::put_number;
@@ -10,114 +15,188 @@ use inspection::monitor::Iec61850Monitor;
 use inspection::rules::Added;
 use records::alert::CodedAlert;
 use records::alert::SecurityAlert;
+use records::bucket::BucketCall;
 use records::frame::SvFrame;
 use records::result::InspectResult;
 use records::service::MmsServiceType;
 use wire::sv::Parsed;
 
-// Whether all octets of a hash are 0.
-fn is_zero(hash: [u8; 32]) -> bool {
-    let mut zero = true;
+// Whether two hashes are equal.
+fn same_hash(a: [u8; 32], b: [u8; 32]) -> bool {
+    let mut same = true;
     let mut i: usize = 0;
     while i < 32 {
-        if hash[i] != 0 {
-            zero = false;
+        if a[i] != b[i] {
+            same = false;
         }
         i += 1;
     }
-    zero
+    same
 }
 
-// Puts an alert's number, severity, time, source type and source number.
-fn put_alert(line: &mut [u8], at: usize, alert: SecurityAlert) -> usize
+// Whether two alerts are equal, but for their hashes.
+fn same_fields(a: SecurityAlert, b: SecurityAlert) -> bool {
+    let left = a.severity;
+    let right = b.severity;
+    if a.id != b.id {
+        return false;
+    }
+    if a.timestamp_us != b.timestamp_us {
+        return false;
+    }
+    if left.number() != right.number() {
+        return false;
+    }
+    if a.source_id != b.source_id {
+        return false;
+    }
+    a.source_type == b.source_type
+}
+
+// Whether two alerts are equal in every field.
+fn same_alert(a: SecurityAlert, b: SecurityAlert) -> bool {
+    let left = a.payload_hash;
+    let right = b.payload_hash;
+    if !same_hash(left, right) {
+        return false;
+    }
+    same_fields(a, b)
+}
+
+// Whether a slot is as a clean result of a source type has it.
+fn is_unused(slot: CodedAlert, source_type: u8) -> bool {
+    let none = CodedAlert::none(source_type);
+    let code = slot.code;
+    let no_code = none.code;
+    if code.code() != no_code.code() {
+        return false;
+    }
+    let alert = slot.alert;
+    let no_alert = none.alert;
+    same_alert(alert, no_alert)
+}
+
+// Whether each slot behind the alerts of a result is unused.
+fn rest_is_unused(result: InspectResult) -> bool {
+    let mut unused = true;
+    let mut i = result.alert_count as usize;
+    while i < 4 {
+        let slot = result.alerts[i];
+        if !is_unused(slot, result.source_type) {
+            unused = false;
+        }
+        i += 1;
+    }
+    unused
+}
+
+// Puts an alert's number, time, source type and source number.
+fn put_alert_numbers(line: &mut [u8], at: usize, alert: SecurityAlert) -> usize
     requires { ⌜ at ≤ length (now line) ⌝ }
     ensures { λ r. ⌜ Counts r (now (line .exit)) ⌝ }
 {
-    let severity = alert.severity;
-    let mut end = put_number(line, at, alert.id);
-    end = put_number(line, end, severity.number() as u64);
-    end = put_number(line, end, alert.timestamp_us);
-    end = put_number(line, end, alert.source_type as u64);
-    put_number(line, end, alert.source_id as u64)
+    let mut end = put_number(line, at, b" number ", alert.id);
+    end = put_number(line, end, b" time ", alert.timestamp_us);
+    end = put_number(line, end, b" from ", alert.source_type as u64);
+    put_number(line, end, b" ", alert.source_id as u64)
 }
 
-// Puts a slot: the alert, its code, and whether the hash is zero.
-fn put_slot(line: &mut [u8], at: usize, slot: CodedAlert) -> usize
+// Puts an alert's code, its name and the severity.
+fn put_alert_kind(line: &mut [u8], at: usize, slot: CodedAlert) -> usize
     requires { ⌜ at ≤ length (now line) ⌝ }
     ensures { λ r. ⌜ Counts r (now (line .exit)) ⌝ }
 {
     let alert = slot.alert;
     let code = slot.code;
-    let hash = alert.payload_hash;
-    let start = put_octets(line, at, b" :");
-    let middle = put_alert(line, start, alert);
-    let end = put_number(line, middle, code.code() as u64);
-    put_flag(line, end, is_zero(hash))
+    let severity = alert.severity;
+    let name = code_name(code);
+    let word = severity_name(severity);
+    let start = put_number(line, at, b" [", code.code() as u64);
+    let middle = put_name(line, start, &name);
+    put_name(line, middle, &word)
 }
 
-// Puts the four slots of a result.
-fn put_slots(line: &mut [u8], at: usize, result: InspectResult) -> usize
+// Puts an alert with its code, and whether its hash has an octet other than 0.
+fn put_alert(line: &mut [u8], at: usize, slot: CodedAlert) -> usize
     requires { ⌜ at ≤ length (now line) ⌝ }
     ensures { λ r. ⌜ Counts r (now (line .exit)) ⌝ }
 {
+    let alert = slot.alert;
+    let hash = alert.payload_hash;
+    let zero = same_hash(hash, [0; 32]);
+    let start = put_alert_kind(line, at, slot);
+    let middle = put_alert_numbers(line, start, alert);
+    let end = put_flag(line, middle, b" hash ", !zero);
+    put_octets(line, end, b"]")
+}
+
+// Puts the alerts of a result.
+fn put_alerts(line: &mut [u8], at: usize, result: InspectResult) -> usize
+    requires { ⌜ at ≤ length (now line) ⌝ }
+    ensures { λ r. ⌜ Counts r (now (line .exit)) ⌝ }
+{
+    let count = result.alert_count as usize;
     let mut end = at;
     let mut i: usize = 0;
-    while i < 4 {
+    while i < 4 && i < count {
         let slot = result.alerts[i];
-        end = put_slot(line, end, slot);
+        end = put_alert(line, end, slot);
         i += 1;
     }
     end
 }
 
-// Puts a result: allowed, source, how many alerts, the mark, and the slots.
+// Puts whether a frame is allowed.
+fn put_verdict(line: &mut [u8], at: usize, allowed: bool) -> usize
+    requires { ⌜ at ≤ length (now line) ⌝ }
+    ensures { λ r. ⌜ Counts r (now (line .exit)) ⌝ }
+{
+    if allowed {
+        return put_octets(line, at, b"allowed");
+    }
+    put_octets(line, at, b"refused")
+}
+
+// Puts a result: the verdict, the source type, the alerts, and the marks.
 pub fn put_result(line: &mut [u8], at: usize, result: InspectResult) -> usize
     requires { ⌜ at ≤ length (now line) ⌝ }
     ensures { λ r. ⌜ Counts r (now (line .exit)) ⌝ }
 {
-    let mut end = put_octets(line, at, b"result");
-    end = put_flag(line, end, result.allowed);
-    end = put_number(line, end, result.source_type as u64);
-    end = put_number(line, end, result.alert_count as u64);
-    end = put_flag(line, end, result.alerts_truncated);
-    put_slots(line, end, result)
+    let unused = rest_is_unused(result);
+    let mut end = put_verdict(line, at, result.allowed);
+    end = put_number(line, end, b" source ", result.source_type as u64);
+    end = put_number(line, end, b" alerts ", result.alert_count as u64);
+    end = put_alerts(line, end, result);
+    end = put_flag(line, end, b" unused ", unused);
+    put_flag(line, end, b" truncated ", result.alerts_truncated)
 }
 
 // Puts the error's number.
-fn put_error(line: &mut [u8], number: u8) -> usize
+fn put_error(line: &mut [u8], at: usize, number: u8) -> usize
+    requires { ⌜ at ≤ length (now line) ⌝ }
     ensures { λ r. ⌜ Counts r (now (line .exit)) ⌝ }
 {
-    let end = put_octets(line, 0, b"error");
-    put_number(line, end, number as u64)
+    put_number(line, at, b"error ", number as u64)
 }
 
 // Puts the answer of an add call.
-pub fn put_added(line: &mut [u8], answer: Added) -> usize
+pub fn put_added(line: &mut [u8], at: usize, answer: Added) -> usize
+    requires { ⌜ at ≤ length (now line) ⌝ }
     ensures { λ r. ⌜ Counts r (now (line .exit)) ⌝ }
 {
     match answer {
-        Added::Rule => put_octets(line, 0, b"added"),
-        Added::Error(error) => put_error(line, error.number()),
+        Added::Rule => put_octets(line, at, b"added"),
+        Added::Error(error) => put_error(line, at, error.number()),
     }
 }
 
-// Puts whether a raw frame was read.
-fn put_parsed(line: &mut [u8], answer: Parsed) -> usize
+// Puts a name's stated length and all its octets.
+fn put_stated(line: &mut [u8], at: usize, len: u8, name: &[u8]) -> usize
+    requires { ⌜ at ≤ length (now line) ⌝ }
     ensures { λ r. ⌜ Counts r (now (line .exit)) ⌝ }
 {
-    match answer {
-        Parsed::Frame => put_octets(line, 0, b"frame"),
-        Parsed::Error(error) => put_error(line, error.number()),
-    }
-}
-
-// Puts a service: its number, and whether it writes.
-pub fn put_service(line: &mut [u8], service: MmsServiceType) -> usize
-    ensures { λ r. ⌜ Counts r (now (line .exit)) ⌝ }
-{
-    let mut end = put_octets(line, 0, b"service");
-    end = put_number(line, end, service.number() as u64);
-    put_flag(line, end, service.is_write())
+    let end = put_number(line, at, b" ", len as u64);
+    put_hex(line, end, name)
 }
 
 // Puts a frame's first five fields: source, svID, count and rate.
@@ -126,10 +205,9 @@ fn put_first_fields(line: &mut [u8], at: usize, frame: SvFrame) -> usize
     ensures { λ r. ⌜ Counts r (now (line .exit)) ⌝ }
 {
     let mut end = put_hex(line, at, &frame.src_mac);
-    end = put_number(line, end, frame.svid_len as u64);
-    end = put_hex(line, end, &frame.svid);
-    end = put_number(line, end, frame.smp_cnt as u64);
-    put_number(line, end, frame.smp_rate as u64)
+    end = put_stated(line, end, frame.svid_len, &frame.svid);
+    end = put_number(line, end, b" ", frame.smp_cnt as u64);
+    put_number(line, end, b" ", frame.smp_rate as u64)
 }
 
 // Puts a frame's other five fields: data set and times.
@@ -137,11 +215,12 @@ fn put_last_fields(line: &mut [u8], at: usize, frame: SvFrame) -> usize
     requires { ⌜ at ≤ length (now line) ⌝ }
     ensures { λ r. ⌜ Counts r (now (line .exit)) ⌝ }
 {
-    let mut end = put_number(line, at, frame.dataset_ref_len as u64);
-    end = put_hex(line, end, &frame.dataset_ref);
-    end = put_number(line, end, frame.timestamp_us);
-    end = put_number(line, end, frame.t_seconds_since_epoch as u64);
-    put_number(line, end, frame.t_fraction_of_second as u64)
+    let seconds = frame.t_seconds_since_epoch as u64;
+    let fraction = frame.t_fraction_of_second as u64;
+    let mut end = put_stated(line, at, frame.dataset_ref_len, &frame.dataset_ref);
+    end = put_number(line, end, b" ", frame.timestamp_us);
+    end = put_number(line, end, b" ", seconds);
+    put_number(line, end, b" ", fraction)
 }
 
 // Puts every field of a frame, in the order in which they are declared.
@@ -149,35 +228,119 @@ fn put_frame(line: &mut [u8], at: usize, frame: SvFrame) -> usize
     requires { ⌜ at ≤ length (now line) ⌝ }
     ensures { λ r. ⌜ Counts r (now (line .exit)) ⌝ }
 {
-    let middle = put_first_fields(line, at, frame);
-    let end = put_last_fields(line, middle, frame);
-    put_octets(line, end, b" ")
+    let start = put_octets(line, at, b"frame");
+    let middle = put_first_fields(line, start, frame);
+    put_last_fields(line, middle, frame)
 }
 
-// Puts the answer to a raw frame: whether it was read, what was read of it, and the result.
+// Puts what was read of a raw frame, or why nothing was.
+pub fn put_parsed(line: &mut [u8], at: usize, answer: Parsed, frame: SvFrame) -> usize
+    requires { ⌜ at ≤ length (now line) ⌝ }
+    ensures { λ r. ⌜ Counts r (now (line .exit)) ⌝ }
+{
+    match answer {
+        Parsed::Frame => put_frame(line, at, frame),
+        Parsed::Error(error) => put_error(line, at, error.number()),
+    }
+}
+
+// Puts the answer to a raw frame: what was read of it, and the result.
 pub fn put_raw_result(
     line: &mut [u8],
+    at: usize,
     answer: Parsed,
     frame: SvFrame,
     result: InspectResult,
 ) -> usize
-    ensures { λ r. ⌜ Counts r (now (line .exit)) ⌝ }
-{
-    let start = put_parsed(line, answer);
-    let middle = put_frame(line, start, frame);
-    put_result(line, middle, result)
-}
-
-// Puts the four totals and strict mode, which end every line.
-pub fn put_totals(line: &mut [u8], at: usize, m: Iec61850Monitor) -> usize
     requires { ⌜ at ≤ length (now line) ⌝ }
     ensures { λ r. ⌜ Counts r (now (line .exit)) ⌝ }
 {
-    let mut end = put_octets(line, at, b" =");
-    end = put_number(line, end, m.mms_total_inspected());
-    end = put_number(line, end, m.goose_total_inspected());
-    end = put_number(line, end, m.sv_total_inspected());
-    end = put_number(line, end, m.total_alerts());
-    end = put_flag(line, end, m.strict_mode());
+    let start = put_parsed(line, at, answer, frame);
+    let middle = put_octets(line, start, b" result ");
+    put_result(line, middle, result)
+}
+
+// Puts a service: its number, and whether it writes.
+pub fn put_service(line: &mut [u8], at: usize, service: MmsServiceType) -> usize
+    requires { ⌜ at ≤ length (now line) ⌝ }
+    ensures { λ r. ⌜ Counts r (now (line .exit)) ⌝ }
+{
+    let end = put_number(line, at, b"service ", service.number() as u64);
+    put_flag(line, end, b" write ", service.is_write())
+}
+
+// Puts a bucket after a call, and first whether the call was allowed.
+pub fn put_bucket(line: &mut [u8], at: usize, called: BucketCall) -> usize
+    requires { ⌜ at ≤ length (now line) ⌝ }
+    ensures { λ r. ⌜ Counts r (now (line .exit)) ⌝ }
+{
+    let bucket = called.bucket;
+    let mut end = put_flag(line, at, b"bucket ", called.allowed);
+    end = put_number(line, end, b" ", bucket.tokens as u64);
+    end = put_number(line, end, b" ", bucket.capacity as u64);
+    put_number(line, end, b" ", bucket.last_refill_us)
+}
+
+// What the readers of a monitor answer.
+pub struct MonitorReadings {
+    mms: u64,
+    goose: u64,
+    sv: u64,
+    alerts: u64,
+    strict: bool,
+}
+
+pub fn readings(m: Iec61850Monitor) -> MonitorReadings {
+    MonitorReadings {
+        mms: m.mms_total_inspected(),
+        goose: m.goose_total_inspected(),
+        sv: m.sv_total_inspected(),
+        alerts: m.total_alerts(),
+        strict: m.strict_mode(),
+    }
+}
+
+// Puts the totals.
+fn put_totals(line: &mut [u8], at: usize, read: MonitorReadings) -> usize
+    requires { ⌜ at ≤ length (now line) ⌝ }
+    ensures { λ r. ⌜ Counts r (now (line .exit)) ⌝ }
+{
+    let mut end = put_number(line, at, b" totals ", read.mms);
+    end = put_number(line, end, b" ", read.goose);
+    end = put_number(line, end, b" ", read.sv);
+    put_number(line, end, b" ", read.alerts)
+}
+
+// Puts the totals and strict mode, which end every line.
+pub fn put_readings(line: &mut [u8], at: usize, read: MonitorReadings) -> usize
+    requires { ⌜ at ≤ length (now line) ⌝ }
+    ensures { λ r. ⌜ Counts r (now (line .exit)) ⌝ }
+{
+    let middle = put_totals(line, at, read);
+    let end = put_flag(line, middle, b" strict ", read.strict);
     put_octets(line, end, b"\n")
+}
+
+// Puts which argument of a line is not as it must be, and why.
+fn put_argument(line: &mut [u8], at: usize, k: usize, why: &[u8]) -> usize
+    requires { ⌜ at ≤ length (now line) ⌝ }
+    ensures { λ r. ⌜ Counts r (now (line .exit)) ⌝ }
+{
+    let end = put_number(line, at, b": argument ", k as u64);
+    put_octets(line, end, why)
+}
+
+// Puts why the line of a number is no call.
+pub fn put_malformed(line: &mut [u8], at: usize, number: u64, read: Line) -> usize
+    requires { ⌜ at ≤ length (now line) ⌝ }
+    ensures { λ r. ⌜ Counts r (now (line .exit)) ⌝ }
+{
+    let end = put_number(line, at, b"malformed line ", number);
+    match read {
+        Line::Missing(k) => put_argument(line, end, k, b" missing\n"),
+        Line::Malformed(k) => put_argument(line, end, k, b" malformed\n"),
+        Line::Unexpected(k) => put_argument(line, end, k, b" unexpected\n"),
+        Line::UnknownCall => put_octets(line, end, b": unknown call\n"),
+        _ => put_octets(line, end, b": too long\n"),
+    }
 }

@@ -1,6 +1,7 @@
-// The arguments of a call, out of its octets. Octets that the call does not have count as 0. Arguments stand at places up to 512, so
+// The arguments of a call, out of its record. Octets that the record does not have count as 0. Arguments stand at places up to 512, so
 // that no sum of places overflows.
 ghost use Prim.Native.Nat.{_+_, _≤_};
+ghost use lib.ListN.{length};
 use wire::number::least;
 use wire::number::octet_at;
 
@@ -40,16 +41,23 @@ pub fn flag_at(call: &[u8], at: usize) -> bool {
     octet_at(call, at) != 0
 }
 
+// Fills a part with the octets from a place on.
+fn octets_at(call: &[u8], at: usize, part: &mut [u8])
+    requires { ⌜ at + length (now part) ≤ 1024 ⌝ }
+{
+    let mut i: usize = 0;
+    while i < part.len() {
+        part[i] = octet_at(call, at + i);
+        i += 1;
+    }
+}
+
 // The six octets of an address.
 pub fn mac_at(call: &[u8], at: usize) -> [u8; 6]
     requires { ⌜ at ≤ 512 ⌝ }
 {
     let mut mac = [0u8; 6];
-    let mut i: usize = 0;
-    while i < 6 {
-        mac[i] = octet_at(call, at + i);
-        i += 1;
-    }
+    octets_at(call, at, &mut mac);
     mac
 }
 
@@ -58,16 +66,18 @@ pub fn name_at(call: &[u8], at: usize) -> [u8; 64]
     requires { ⌜ at ≤ 512 ⌝ }
 {
     let mut name = [0u8; 64];
-    let mut i: usize = 0;
-    while i < 64 {
-        name[i] = octet_at(call, at + i);
-        i += 1;
-    }
+    octets_at(call, at, &mut name);
     name
 }
 
-// What the call has from a place on.
+// What the record has from a place on.
 pub fn rest_at<'a>(call: &'a [u8], at: usize) -> &'a [u8] {
     let start = least(at, call.len());
     &call[start..]
+}
+
+// The first n octets of a record's buffer.
+pub fn front<'a>(call: &'a [u8], n: usize) -> &'a [u8] {
+    let end = least(n, call.len());
+    &call[0..end]
 }

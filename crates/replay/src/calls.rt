@@ -1,18 +1,16 @@
-// The calls of a script, by their numbers:
-//     0 new · 1 new_strict · 2 reset · 3 nothing, for the totals
-//     4 set_mms_service_mask · 5 set_mms_read_only · 6 set_block_test_frames · 7 set_sv_max_smp_cnt_gap
-//     8 set_retx_schedule · 9 set_time_max_forward_jump_s · 10 add_mms_rule · 11 add_goose_publisher · 12 add_sv_publisher
-//     13 inspect_mms · 14 inspect_goose · 15 inspect_sv · 16 inspect_raw_sv
-//     17 the service of a raw number · 18 an interval of a schedule and its tolerance
-// A number above 18 is as 3.
+// The calls of a script, each made from its record: the number octet, which the table of `script` gives to the call's name, and the
+// arguments at fixed places, which the same table decides.
 ghost use Prim.Native.Nat.{_≤_};
 ghost use lib.ListN.{length};
 ghost use Rattle.io.specs.Counts.{Counts};
 use crate::answers::put_added;
+use crate::answers::put_bucket;
+use crate::answers::put_parsed;
 use crate::answers::put_raw_result;
+use crate::answers::put_readings;
 use crate::answers::put_result;
 use crate::answers::put_service;
-use crate::answers::put_totals;
+use crate::answers::readings;
 use crate::arguments::flag_at;
 use crate::arguments::mac_at;
 use crate::arguments::name_at;
@@ -26,6 +24,7 @@ use crate::text::put_octets;
 use inspection::monitor::Configured;
 use inspection::monitor::Iec61850Monitor;
 use inspection::monitor::Inspected;
+use records::bucket::RateBucket;
 use records::frame::GooseFrame;
 use records::frame::MmsFrame;
 use records::frame::SvFrame;
@@ -45,7 +44,8 @@ fn with_totals(m: Iec61850Monitor, line: &mut [u8], at: usize) -> Step
     requires { ⌜ at ≤ length (now line) ⌝ }
     ensures { λ r. ⌜ Counts (r .end) (now (line .exit)) ⌝ }
 {
-    let end = put_totals(line, at, m);
+    let read = readings(m);
+    let end = put_readings(line, at, read);
     Step {
         monitor: m,
         end: end,
@@ -123,11 +123,12 @@ fn settle(m: Iec61850Monitor, number: u8, call: &[u8]) -> Iec61850Monitor {
 }
 
 // One of the calls 0 to 9.
-fn make_setting(m: Iec61850Monitor, number: u8, call: &[u8], line: &mut [u8]) -> Step
+fn make_setting(m: Iec61850Monitor, number: u8, call: &[u8], line: &mut [u8], at: usize) -> Step
+    requires { ⌜ at ≤ length (now line) ⌝ }
     ensures { λ r. ⌜ Counts (r .end) (now (line .exit)) ⌝ }
 {
     let monitor = settle(m, number, call);
-    let end = put_octets(line, 0, b"set");
+    let end = put_octets(line, at, b"done");
     with_totals(monitor, line, end)
 }
 
@@ -141,12 +142,13 @@ fn configure(m: Iec61850Monitor, number: u8, call: &[u8]) -> Configured {
 }
 
 // One of the calls 10 to 12.
-fn make_addition(m: Iec61850Monitor, number: u8, call: &[u8], line: &mut [u8]) -> Step
+fn make_addition(m: Iec61850Monitor, number: u8, call: &[u8], line: &mut [u8], at: usize) -> Step
+    requires { ⌜ at ≤ length (now line) ⌝ }
     ensures { λ r. ⌜ Counts (r .end) (now (line .exit)) ⌝ }
 {
     let configured = configure(m, number, call);
     let answer = configured.answer;
-    let end = put_added(line, answer);
+    let end = put_added(line, at, answer);
     let monitor = configured.monitor;
     with_totals(monitor, line, end)
 }
@@ -161,18 +163,20 @@ fn inspect(m: Iec61850Monitor, number: u8, call: &[u8]) -> Inspected {
 }
 
 // One of the calls 13 to 15.
-fn make_inspection(m: Iec61850Monitor, number: u8, call: &[u8], line: &mut [u8]) -> Step
+fn make_inspection(m: Iec61850Monitor, number: u8, call: &[u8], line: &mut [u8], at: usize) -> Step
+    requires { ⌜ at ≤ length (now line) ⌝ }
     ensures { λ r. ⌜ Counts (r .end) (now (line .exit)) ⌝ }
 {
     let inspected = inspect(m, number, call);
     let result = inspected.result;
-    let end = put_result(line, 0, result);
+    let end = put_result(line, at, result);
     let monitor = inspected.monitor;
     with_totals(monitor, line, end)
 }
 
 // Call 16: time, and the octets of the frame. What was read of it stands before the result.
-fn make_raw_inspection(m: Iec61850Monitor, call: &[u8], line: &mut [u8]) -> Step
+fn make_raw_inspection(m: Iec61850Monitor, call: &[u8], line: &mut [u8], at: usize) -> Step
+    requires { ⌜ at ≤ length (now line) ⌝ }
     ensures { λ r. ⌜ Counts (r .end) (now (line .exit)) ⌝ }
 {
     let octets = rest_at(call, 9);
@@ -182,54 +186,90 @@ fn make_raw_inspection(m: Iec61850Monitor, call: &[u8], line: &mut [u8]) -> Step
     let inspected = m.inspect_raw_sv(octets, time);
     let answer = inspected.answer;
     let result = inspected.result;
-    let end = put_raw_result(line, answer, frame, result);
+    let end = put_raw_result(line, at, answer, frame, result);
     let monitor = inspected.monitor;
     with_totals(monitor, line, end)
 }
 
 // Call 17: a raw number.
-fn make_service(m: Iec61850Monitor, call: &[u8], line: &mut [u8]) -> Step
+fn make_service(m: Iec61850Monitor, call: &[u8], line: &mut [u8], at: usize) -> Step
+    requires { ⌜ at ≤ length (now line) ⌝ }
     ensures { λ r. ⌜ Counts (r .end) (now (line .exit)) ⌝ }
 {
-    let end = put_service(line, MmsServiceType::from_u8(octet_at(call, 1)));
+    let end = put_service(line, at, MmsServiceType::from_u8(octet_at(call, 1)));
     with_totals(m, line, end)
 }
 
-// Puts what a schedule answers to call 18: the interval of the sqNum, and whether the observed one is within tolerance.
-fn put_interval(line: &mut [u8], at: usize, schedule: RetxSchedule, call: &[u8]) -> usize
+// Puts a word and what a schedule answers to call 18: the interval of the sqNum, and whether the observed one is within tolerance.
+fn put_interval(
+    line: &mut [u8],
+    at: usize,
+    word: &[u8],
+    schedule: RetxSchedule,
+    call: &[u8],
+) -> usize
     requires { ⌜ at ≤ length (now line) ⌝ }
     ensures { λ r. ⌜ Counts r (now (line .exit)) ⌝ }
 {
     let interval = schedule.expected_interval_us(u32_at(call, 10));
     let within = schedule.within_tolerance(u32_at(call, 14), u32_at(call, 18));
-    let end = put_number(line, at, interval as u64);
-    put_flag(line, end, within)
+    let end = put_number(line, at, word, interval as u64);
+    put_flag(line, end, b" ", within)
 }
 
-// Call 18: a schedule, a sqNum, and an observed and an expected interval. The answers of the schedule come first, then those of the
-// schedule that a new monitor has.
-fn make_interval(m: Iec61850Monitor, call: &[u8], line: &mut [u8]) -> Step
+// Call 18: a schedule, a sqNum, and an observed and an expected interval. The schedule answers, and then that of a new monitor.
+fn make_interval(m: Iec61850Monitor, call: &[u8], line: &mut [u8], at: usize) -> Step
+    requires { ⌜ at ≤ length (now line) ⌝ }
     ensures { λ r. ⌜ Counts (r .end) (now (line .exit)) ⌝ }
 {
     let given = schedule(call);
     let usual = RetxSchedule::default_8_1();
-    let start = put_octets(line, 0, b"interval");
-    let middle = put_interval(line, start, given, call);
-    let end = put_interval(line, middle, usual, call);
+    let middle = put_interval(line, at, b"interval ", given, call);
+    let end = put_interval(line, middle, b" default ", usual, call);
+    with_totals(m, line, end)
+}
+
+// Call 19: time, and the octets of the frame.
+fn make_parsing(m: Iec61850Monitor, call: &[u8], line: &mut [u8], at: usize) -> Step
+    requires { ⌜ at ≤ length (now line) ⌝ }
+    ensures { λ r. ⌜ Counts (r .end) (now (line .exit)) ⌝ }
+{
+    let parsed = parse_sv(rest_at(call, 9), u64_at(call, 1));
+    let answer = parsed.answer;
+    let frame = parsed.frame;
+    let end = put_parsed(line, at, answer, frame);
+    with_totals(m, line, end)
+}
+
+// Call 20: a bucket's tokens, capacity and last refill, and a time.
+fn make_bucket_call(m: Iec61850Monitor, call: &[u8], line: &mut [u8], at: usize) -> Step
+    requires { ⌜ at ≤ length (now line) ⌝ }
+    ensures { λ r. ⌜ Counts (r .end) (now (line .exit)) ⌝ }
+{
+    let bucket = RateBucket {
+        tokens: u16_at(call, 1),
+        capacity: u16_at(call, 3),
+        last_refill_us: u64_at(call, 5),
+    };
+    let called = bucket.next_call(u64_at(call, 13));
+    let end = put_bucket(line, at, called);
     with_totals(m, line, end)
 }
 
 // Makes a call and puts its line.
-pub fn make_call(m: Iec61850Monitor, call: &[u8], line: &mut [u8]) -> Step
+pub fn make_call(m: Iec61850Monitor, call: &[u8], line: &mut [u8], at: usize) -> Step
+    requires { ⌜ at ≤ length (now line) ⌝ }
     ensures { λ r. ⌜ Counts (r .end) (now (line .exit)) ⌝ }
 {
     let number = octet_at(call, 0);
     match number {
-        10 | 11 | 12 => make_addition(m, number, call, line),
-        13 | 14 | 15 => make_inspection(m, number, call, line),
-        16 => make_raw_inspection(m, call, line),
-        17 => make_service(m, call, line),
-        18 => make_interval(m, call, line),
-        _ => make_setting(m, number, call, line),
+        10 | 11 | 12 => make_addition(m, number, call, line, at),
+        13 | 14 | 15 => make_inspection(m, number, call, line, at),
+        16 => make_raw_inspection(m, call, line, at),
+        17 => make_service(m, call, line, at),
+        18 => make_interval(m, call, line, at),
+        19 => make_parsing(m, call, line, at),
+        20 => make_bucket_call(m, call, line, at),
+        _ => make_setting(m, number, call, line, at),
     }
 }

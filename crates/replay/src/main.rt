@@ -1,91 +1,173 @@
-// Replays a script of calls to the monitor from standard input and writes a line for each call, with every field of what it answered,
-// so that the answers can be compared with those of another monitor. A call: 2 octets length, then as many octets, of which the first
-// is the call's number (`calls` has them) and the others are its arguments. Numbers stand most significant octet first.
+// Reads a script of calls to the monitor from standard input, makes them one after the other, and writes a line for each with every
+// field of what it answered. docs/SCRIPT.md says how calls and answers are written.
 mod answers;
 mod arguments;
 mod calls;
+mod input;
+mod names;
+mod script;
+mod store;
 mod text;
+mod values;
+mod words;
 
-ghost use Prim.Native.Nat.{_<_, _≤_};
-ghost use lib.ListN.{length};
+use answers::put_malformed;
+use arguments::front;
+use calls::Step;
+use calls::make_call;
+use input::Input;
+use input::behind_line;
+use input::find_line;
+use input::last_line;
+use input::read_found;
+use input::refilled;
 use inspection::monitor::Iec61850Monitor;
-use libc::STDIN_FILENO;
 use libc::STDOUT_FILENO;
+use records::counter::saturating_increment;
+use script::Line;
+use wire::number::least;
 
-// The monitor after a call, and whether to go on.
-struct Replayed {
-    monitor: Iec61850Monitor,
+// How many lines were read; where the next one stands in the input buffer; where the answers end in the output buffer; where the record
+// ends of the call that is to be made, 0 if there is none; and whether to go on.
+struct Run {
+    lines: u64,
+    input: Input,
+    end: usize,
+    call_end: usize,
     more: bool,
 }
 
-// The end of the script, or of what can be read of it.
-fn ended(m: Iec61850Monitor) -> Replayed {
-    Replayed {
-        monitor: m,
-        more: false,
+// Writes the answers that stand in the output buffer.
+fn write_answers(output: &[u8], end: usize) -> bool {
+    let n = least(end, output.len());
+    io::write_all(STDOUT_FILENO, &output[0..n])
+}
+
+// Ends the run at a line that is no call. Answers never end behind their buffer: the least of both places spares a proof of that.
+fn refuse_line(run: Run, line: Line, output: &mut [u8]) -> Run {
+    let mut out = run;
+    let at = least(run.end, output.len());
+    out.end = put_malformed(output, at, run.lines, line);
+    out.more = false;
+    out
+}
+
+// Takes note of a line that was read.
+fn note_line(run: Run, line: Line, output: &mut [u8]) -> Run {
+    let mut out = run;
+    out.lines = saturating_increment(run.lines);
+    match line {
+        Line::Skipped => out,
+        Line::Call(end) => {
+            out.call_end = end;
+            out
+        }
+        _ => refuse_line(out, line, output),
     }
 }
 
-// Says that the input ends within a call. There is nothing to go on with.
-fn incomplete(m: Iec61850Monitor) -> Replayed {
-    io::write_all(STDOUT_FILENO, b"incomplete call\n");
-    ended(m)
+// Reads the line that no line feed ends, the last.
+fn read_last(run: Run, buffer: &[u8], call: &mut [u8], output: &mut [u8]) -> Run {
+    let input = run.input;
+    let line = last_line(input, buffer, call);
+    let mut out = note_line(run, line, output);
+    out.more = false;
+    out
 }
 
-// Makes one call and writes its line, which has at most 800 octets.
-fn answer_call(m: Iec61850Monitor, call: &[u8]) -> Replayed {
-    let mut line = [0u8; 1024];
-    let step = calls::make_call(m, call, &mut line);
-    let end = step.end;
-    let written = io::write_all(STDOUT_FILENO, &line[..end]);
-    let monitor = step.monitor;
-    Replayed {
-        monitor: monitor,
-        more: written,
+// Writes the answers, and reads more. Where nothing comes, the input ends or the line is too long for the buffer.
+fn read_on(run: Run, buffer: &mut [u8], call: &mut [u8], output: &mut [u8]) -> Run {
+    let mut out = run;
+    out.more = write_answers(output, run.end);
+    out.end = 0;
+    let places = run.input;
+    let input = refilled(places, buffer);
+    out.input = input;
+    if input.searched < input.filled {
+        return out;
     }
+    read_last(out, buffer, call, output)
 }
 
-// Reads the call of n octets into the buffer, and answers it.
-fn answer_announced(m: Iec61850Monitor, n: usize, buffer: &mut [u8]) -> Replayed
-    requires { ⌜ 65536 ≤ length (now buffer) ⌝ }
-    requires { ⌜ n < 65536 ⌝ }
-{
-    let got = io::read_full(STDIN_FILENO, &mut buffer[..n]);
-    if got < n {
-        return incomplete(m);
+// Reads the next line if the buffer has all of it. If not, reads on.
+fn read_next(run: Run, buffer: &mut [u8], call: &mut [u8], output: &mut [u8]) -> Run {
+    let mut out = run;
+    let places = run.input;
+    let input = find_line(places, buffer);
+    out.input = input;
+    if input.searched >= input.filled {
+        return read_on(out, buffer, call, output);
     }
-    answer_call(m, &buffer[..n])
+    let line = read_found(input, buffer, call);
+    let next = behind_line(input);
+    out.input = next;
+    note_line(out, line, output)
 }
 
-// Reads one call and answers it.
-fn answer_next(m: Iec61850Monitor, buffer: &mut [u8; 65536]) -> Replayed {
-    let mut head = [0u8; 2];
-    let got = io::read_full(STDIN_FILENO, &mut head);
-    if got == 0 {
-        return ended(m);
+// Reads the next line, or writes the answers first if there is no room for another, which has at most 2048 octets.
+fn next_call(
+    run: Run,
+    buffer: &mut [u8; 262144],
+    call: &mut [u8; 262144],
+    output: &mut [u8; 65536],
+) -> Run {
+    let mut out = run;
+    out.call_end = 0;
+    if run.end <= 63488 {
+        return read_next(out, buffer, call, output);
     }
-    if got < 2 {
-        return incomplete(m);
+    out.more = write_answers(output, run.end);
+    out.end = 0;
+    out
+}
+
+// Makes the call of a record that ends at n, and puts its answer.
+fn answer_call(
+    m: Iec61850Monitor,
+    call: &[u8; 262144],
+    n: usize,
+    output: &mut [u8; 65536],
+    at: usize,
+) -> Step {
+    make_call(m, front(call, n), output, least(at, 65536))
+}
+
+// Writes the answers at the end of the run.
+fn write_last(output: &[u8; 65536], end: usize) {
+    write_answers(output, end);
+}
+
+fn new_run() -> Run {
+    Run {
+        lines: 0,
+        input: Input {
+            start: 0,
+            searched: 0,
+            filled: 0,
+        },
+        end: 0,
+        call_end: 0,
+        more: true,
     }
-    answer_announced(m, arguments::u16_at(&head, 0) as usize, buffer)
 }
 
 // A proved loop has to end, and nothing says that the input does. So the loop counts its turns down, from a number that no run
 // uses up.
-fn answer_all() {
-    let mut buffer = [0u8; 65536];
+fn main() {
+    let mut buffer = [0u8; 262144];
+    let mut call = [0u8; 262144];
+    let mut output = [0u8; 65536];
     let mut monitor = Iec61850Monitor::new();
+    let mut run = new_run();
     let mut turns = u64::MAX;
-    let mut more = true;
-    while turns > 0 && more {
-        let replayed = answer_next(monitor, &mut buffer);
-        monitor = replayed.monitor;
-        more = replayed.more;
+    while turns > 0 && run.more {
+        run = next_call(run, &mut buffer, &mut call, &mut output);
+        if run.call_end > 0 {
+            let step = answer_call(monitor, &call, run.call_end, &mut output, run.end);
+            monitor = step.monitor;
+            run.end = step.end;
+        }
         turns -= 1;
     }
-}
-
-// Answers every call of the script.
-fn main() {
-    answer_all();
+    write_last(&output, run.end);
 }

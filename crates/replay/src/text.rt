@@ -19,26 +19,36 @@ pub fn put_octets(line: &mut [u8], at: usize, octets: &[u8]) -> usize
     at + n
 }
 
-// Puts a space and a number's decimal digits.
-pub fn put_number(line: &mut [u8], at: usize, number: u64) -> usize
+// Puts a word and a number's decimal digits.
+pub fn put_number(line: &mut [u8], at: usize, word: &[u8], number: u64) -> usize
     requires { ⌜ at ≤ length (now line) ⌝ }
     ensures { λ r. ⌜ Counts r (now (line .exit)) ⌝ }
 {
     let mut digits = [0u8; 20];
     let n = io::decimal(number, &mut digits);
-    let start = put_octets(line, at, b" ");
+    let start = put_octets(line, at, word);
     put_octets(line, start, &digits[..n])
 }
 
-// Puts a space and 1 or 0.
-pub fn put_flag(line: &mut [u8], at: usize, flag: bool) -> usize
+// Puts a word and 1 or 0.
+pub fn put_flag(line: &mut [u8], at: usize, word: &[u8], flag: bool) -> usize
     requires { ⌜ at ≤ length (now line) ⌝ }
     ensures { λ r. ⌜ Counts r (now (line .exit)) ⌝ }
 {
+    let start = put_octets(line, at, word);
     if flag {
-        return put_octets(line, at, b" 1");
+        return put_octets(line, start, b"1");
     }
-    put_octets(line, at, b" 0")
+    put_octets(line, start, b"0")
+}
+
+// The hexadecimal digit of a number below 16.
+fn hex_digit(n: u8) -> u8 {
+    match n {
+        0..=9 => 48 + n,
+        10..=15 => 87 + n,
+        _ => b'?',
+    }
 }
 
 // Puts an octet as two digits.
@@ -46,9 +56,7 @@ fn put_octet(line: &mut [u8], at: usize, octet: u8) -> usize
     requires { ⌜ at ≤ length (now line) ⌝ }
     ensures { λ r. ⌜ Counts r (now (line .exit)) ⌝ }
 {
-    let mut digits = [0u8; 16];
-    let n = io::hex(octet as u64, 2, &mut digits);
-    put_octets(line, at, &digits[..n])
+    put_octets(line, at, &[hex_digit(octet / 16), hex_digit(octet % 16)])
 }
 
 // Puts a space and each octet as two digits.

@@ -1,15 +1,17 @@
--- `replay::arguments::mac_at` stays within the address and ends. The loop's invariant: it has put at most 6
--- octets. The measure is what is left of them. Assumes nothing.
+-- `replay::arguments::octets_at` stays within the part and ends. The loop's invariant: it has filled at most the part, which has kept
+-- its length. The measure is what is left of it. Assumes nothing.
 use Prim.Native.Nat.{_≤_, _-_}
+use mathlib.Core.Path.{_≡_}
+use lib.ListN.{length}
 use borrow.Author.Needs.{needs}
-use Rattle.replay.proofs.arguments.mac_at.Statement.{statement}
-use Rattle.replay.proofs.arguments.mac_at.Tie as tie
+use Rattle.replay.proofs.arguments.octets_at.Statement.{statement}
+use Rattle.replay.proofs.arguments.octets_at.Tie as tie
 
 abbrev Inv-loop : tie.InvT-loop
-Inv-loop call at mac₀ i₀ mac i = i ≤ 6
+Inv-loop call at part₀ i₀ part i = (i ≤ length part₀) × (length part ≡ length part₀)
 
 abbrev μ-loop : tie.MeasureT-loop
-μ-loop call at mac₀ i₀ mac i = 6 - i
+μ-loop call at part₀ i₀ part i = length part₀ - i
 
 loop-holds : tie.Need-loop-holds Inv-loop μ-loop
 loop-holds c = search needs
@@ -20,8 +22,8 @@ add-octet-at c = search needs
 octet-at-requires : tie.Need-octet-at-requires Inv-loop μ-loop
 octet-at-requires c κs = search needs
 
-array-write-mac : tie.Need-array-write-mac Inv-loop μ-loop
-array-write-mac c = search needs
+slice-write-part : tie.Need-slice-write-part Inv-loop μ-loop
+slice-write-part c = search needs
 
 add-i : tie.Need-add-i Inv-loop μ-loop
 add-i c = search needs
@@ -32,11 +34,14 @@ loop-less c = search needs
 loop-again : tie.Need-loop-again Inv-loop μ-loop
 loop-again c = search needs
 
+same-length : tie.Need-same-length Inv-loop μ-loop
+same-length c = search needs
+
 returns : tie.Need-returns Inv-loop μ-loop
 returns c = search needs
 
-pub mac-at-spec : {M : Type 1} → statement M
-mac-at-spec =
+pub octets-at-spec : {M : Type 1} → statement M
+octets-at-spec =
     tie.close
     (tie.spec
     Inv-loop
@@ -44,8 +49,9 @@ mac-at-spec =
     loop-holds
     add-octet-at
     octet-at-requires
-    array-write-mac
+    slice-write-part
     add-i
     loop-less
     loop-again
+    same-length
     returns)

@@ -1,0 +1,47 @@
+-- `replay::script::call_number` is safe and ends. The loop's invariant: the number is at most that of the calls. The measure is how many
+-- calls are left. Assumes nothing.
+use Prim.Native.Nat.{_≤_, _-_}
+use borrow.Author.Needs.{needs}
+use Rattle.replay.proofs.script.call_number.Statement.{statement}
+use Rattle.replay.proofs.script.call_number.Tie as tie
+
+abbrev Inv-loop : tie.InvT-loop
+Inv-loop word number₀ number = number ≤ 21
+
+abbrev μ-loop : tie.MeasureT-loop
+μ-loop word number₀ number = 21 - number
+
+loop-holds : tie.Need-loop-holds Inv-loop μ-loop
+loop-holds c = search needs
+
+is-call-requires : tie.Need-is-call-requires Inv-loop μ-loop
+is-call-requires c κs = search needs
+
+add-number : tie.Need-add-number Inv-loop μ-loop
+add-number c = search needs
+
+loop-less : tie.Need-loop-less Inv-loop μ-loop
+loop-less c = search needs
+
+loop-again : tie.Need-loop-again Inv-loop μ-loop
+loop-again c = search needs
+
+returns : tie.Need-returns Inv-loop μ-loop
+returns c = search needs
+
+returns-2 : tie.Need-returns-2 Inv-loop μ-loop
+returns-2 c = search needs
+
+pub call-number-spec : {M : Type 1} → statement M
+call-number-spec =
+    tie.close
+    (tie.spec
+    Inv-loop
+    μ-loop
+    loop-holds
+    is-call-requires
+    add-number
+    loop-less
+    loop-again
+    returns
+    returns-2)

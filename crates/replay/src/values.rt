@@ -1,0 +1,177 @@
+// What a word says: a decimal number, or octets as hexadecimal digits or as text.
+ghost use Prim.Native.Nat.{_≤_};
+ghost use lib.ListN.{length};
+use wire::number::octet_at;
+
+pub enum Number {
+    Value(u64),
+    Malformed,
+}
+
+// How many octets a word gave, and whether it is as it must be.
+pub struct Octets {
+    pub count: usize,
+    pub good: bool,
+}
+
+fn malformed() -> Octets
+    ensures { λ r. ⌜ r .count ≤ 0 ⌝ }
+{
+    Octets {
+        count: 0,
+        good: false,
+    }
+}
+
+// A decimal digit's value, 10 if it is none.
+fn digit_value(digit: u8) -> u8
+    ensures { λ r. ⌜ r ≤ 10 ⌝ }
+{
+    match digit {
+        b'0'..=b'9' => digit - 48,
+        _ => 10,
+    }
+}
+
+// A hexadecimal digit's value, 16 if it is none.
+fn hex_value(digit: u8) -> u8
+    ensures { λ r. ⌜ r ≤ 16 ⌝ }
+{
+    match digit {
+        b'0'..=b'9' => digit - 48,
+        b'A'..=b'F' => digit - 55,
+        b'a'..=b'f' => digit - 87,
+        _ => 16,
+    }
+}
+
+// The number of 64 bits in 1 to 20 digits.
+pub fn decimal(word: &[u8]) -> Number {
+    if word.len() == 0 {
+        return Number::Malformed;
+    }
+    if word.len() > 20 {
+        return Number::Malformed;
+    }
+    let mut value: u64 = 0;
+    let mut i: usize = 0;
+    while i < word.len() {
+        let digit = digit_value(word[i]) as u64;
+        if digit > 9 {
+            return Number::Malformed;
+        }
+        if value > (0xffff_ffff_ffff_ffff - digit) / 10 {
+            return Number::Malformed;
+        }
+        value = value * 10 + digit;
+        i += 1;
+    }
+    Number::Value(value)
+}
+
+// Octets as pairs of hexadecimal digits.
+fn hex_octets(word: &[u8], out: &mut [u8]) -> Octets
+    ensures { λ r. ⌜ r .count ≤ length (now (out .exit)) ⌝ }
+{
+    let n = word.len() / 2;
+    if word.len() % 2 != 0 {
+        return malformed();
+    }
+    if n > out.len() {
+        return malformed();
+    }
+    let mut i: usize = 0;
+    while i < n {
+        let high = hex_value(word[2 * i]);
+        let low = hex_value(word[2 * i + 1]);
+        if high > 15 {
+            return malformed();
+        }
+        if low > 15 {
+            return malformed();
+        }
+        out[i] = high * 16 + low;
+        i += 1;
+    }
+    Octets {
+        count: n,
+        good: true,
+    }
+}
+
+// Whether text may have an octet: printable ASCII but the space and the quotation mark.
+fn is_text(octet: u8) -> bool {
+    match octet {
+        b'!' | b'#'..=b'~' => true,
+        _ => false,
+    }
+}
+
+// Octets as text between quotation marks, of which the first is there.
+fn text_octets(word: &[u8], out: &mut [u8]) -> Octets
+    ensures { λ r. ⌜ r .count ≤ length (now (out .exit)) ⌝ }
+{
+    if word.len() < 2 {
+        return malformed();
+    }
+    let n = word.len() - 2;
+    if n > out.len() {
+        return malformed();
+    }
+    if word[n + 1] != b'"' {
+        return malformed();
+    }
+    let mut i: usize = 0;
+    while i < n {
+        if !is_text(word[i + 1]) {
+            return malformed();
+        }
+        out[i] = word[i + 1];
+        i += 1;
+    }
+    Octets {
+        count: n,
+        good: true,
+    }
+}
+
+// Whether a word says that there are no octets.
+fn is_none(word: &[u8]) -> bool {
+    word.len() == 1 && word[0] == b'-'
+}
+
+// The octets of a word, at the start of `out`, which they may not pass.
+pub fn word_octets(word: &[u8], out: &mut [u8]) -> Octets
+    ensures { λ r. ⌜ r .count ≤ length (now (out .exit)) ⌝ }
+{
+    if word.len() == 0 {
+        return malformed();
+    }
+    if is_none(word) {
+        return Octets {
+            count: 0,
+            good: true,
+        };
+    }
+    if octet_at(word, 0) == b'"' {
+        return text_octets(word, out);
+    }
+    hex_octets(word, out)
+}
+
+// Where the octets of a name begin: behind the colon of its stated length, or at its start. Text may have a colon too.
+pub fn name_start(word: &[u8]) -> usize
+    ensures { λ r. ⌜ r ≤ length (now (word .entry)) ⌝ }
+{
+    if octet_at(word, 0) == b'"' {
+        return 0;
+    }
+    let mut i: usize = 0;
+    while i < word.len() {
+        if word[i] == b':' {
+            return i + 1;
+        }
+        i += 1;
+    }
+    0
+}
