@@ -1,0 +1,374 @@
+// Times the Rust `Iec61850Monitor` and this engine (the static library `host`) on the same frames in one run, and writes a table of
+// nanoseconds for each frame: bench [ROUNDS] [FRAMES]. Built and started by `run`.
+use iec61850_monitor as rust;
+use std::hint::black_box;
+use std::time::Instant;
+use vs_types_ind::SvFrame;
+
+// The engine's structs as include/mokyndu.h declares them. The monitor's fields are its own.
+#[repr(C)]
+#[derive(Clone, Copy)]
+struct Monitor([u64; 784]);
+
+#[repr(C)]
+#[derive(Clone, Copy)]
+struct Alert {
+    id: u64,
+    timestamp_us: u64,
+    payload_hash: [u8; 32],
+    source_id: u32,
+    severity: u8,
+    source_type: u8,
+    code: u8,
+}
+
+#[repr(C)]
+#[derive(Clone, Copy)]
+struct Verdict {
+    allowed: u8,
+    alert_count: u8,
+    source_type: u8,
+    alerts_truncated: u8,
+    alerts: [Alert; 4],
+}
+
+#[repr(C)]
+struct Inspected {
+    monitor: Monitor,
+    result: Verdict,
+}
+
+#[repr(C)]
+struct RawInspected {
+    monitor: Monitor,
+    result: Verdict,
+    error: u8,
+}
+
+#[repr(C)]
+struct Configured {
+    monitor: Monitor,
+    error: u8,
+}
+
+#[repr(C)]
+#[derive(Clone, Copy)]
+struct Sv {
+    src_mac: [u8; 6],
+    svid_len: u8,
+    svid: [u8; 64],
+    smp_cnt: u16,
+    smp_rate: u16,
+    dataset_ref_len: u8,
+    dataset_ref: [u8; 64],
+    timestamp_us: u64,
+    t_seconds_since_epoch: u32,
+    t_fraction_of_second: u32,
+}
+
+#[repr(C)]
+#[derive(Clone, Copy)]
+struct Goose {
+    src_mac: [u8; 6],
+    go_cb_ref: [u8; 64],
+    go_cb_ref_len: u8,
+    st_num: u32,
+    sq_num: u32,
+    test: u8,
+    timestamp_us: u64,
+    t_seconds_since_epoch: u32,
+    t_fraction_of_second: u32,
+}
+
+#[repr(C)]
+#[derive(Clone, Copy)]
+struct Mms {
+    service_type: u8,
+    raw_service_type: u8,
+    domain: [u8; 64],
+    domain_len: u8,
+    invoke_id: u32,
+    timestamp_us: u64,
+    client_id: u32,
+    control_block_is_goose: u8,
+}
+
+unsafe extern "C" {
+    fn mokyndu_new() -> Monitor;
+    fn mokyndu_add_mms_rule(m: Monitor, mask: u16, read_only: u8, rate: u16) -> Configured;
+    fn mokyndu_inspect_mms(m: Monitor, frame: Mms) -> Inspected;
+    fn mokyndu_inspect_goose(m: Monitor, frame: Goose) -> Inspected;
+    fn mokyndu_inspect_sv(m: Monitor, frame: Sv) -> Inspected;
+    fn mokyndu_inspect_raw_sv(m: Monitor, octets: *const u8, len: usize, time: u64) -> RawInspected;
+    fn mokyndu_inspect_sv_batch(m: Monitor, frames: *const u8, frames_len: usize, verdicts: *mut u8, verdicts_len: usize) -> Monitor;
+}
+
+// What a way of inspecting took, in nanoseconds for each frame of each round, and how many frames it allowed.
+struct Timed {
+    rounds: Vec<f64>,
+    allowed: u64,
+}
+
+impl Timed {
+    fn best(&self) -> f64 {
+        self.rounds.iter().copied().fold(f64::MAX, f64::min)
+    }
+
+    fn median(&self) -> f64 {
+        let mut sorted = self.rounds.clone();
+        sorted.sort_by(f64::total_cmp);
+        sorted[sorted.len() / 2]
+    }
+}
+
+// Runs each way once in each round, so that all of them meet the same moments of a busy machine.
+fn timed(rounds: usize, frames: usize, ways: &mut [&mut dyn FnMut() -> u64]) -> Vec<Timed> {
+    let mut out: Vec<Timed> = ways.iter().map(|_| Timed { rounds: Vec::new(), allowed: 0 }).collect();
+    for _ in 0..rounds {
+        for (way, timed) in ways.iter_mut().zip(&mut out) {
+            let start = Instant::now();
+            timed.allowed = way();
+            timed.rounds.push(start.elapsed().as_nanos() as f64 / frames as f64);
+        }
+    }
+    out
+}
+
+// Writes the row of a table: the Rust's time, and of each other way its time and the ratio to the Rust's best.
+fn row(name: &str, ways: &[Timed]) {
+    let rust = ways[0].best();
+    print!("| {name} | {:.0} / {:.0} |", rust, ways[0].median());
+    for way in &ways[1..] {
+        print!(" {:.0} / {:.0} | {:.2} |", way.best(), way.median(), way.best() / rust);
+        assert_eq!(way.allowed, ways[0].allowed, "{name}: the verdicts differ");
+    }
+    println!();
+}
+
+fn svid(stream: usize, len: usize) -> [u8; 64] {
+    let mut octets = [0; 64];
+    octets[..len].fill(b'M');
+    octets[len - 2] = b'0' + (stream / 10) as u8;
+    octets[len - 1] = b'0' + (stream % 10) as u8;
+    octets
+}
+
+fn sv_row(rounds: usize, frames: usize, streams: usize, len: usize) {
+    let ours: Vec<Sv> = (0..frames)
+        .map(|k| Sv {
+            src_mac: [2, 0, 0, 0, 0, (k % streams) as u8],
+            svid_len: len as u8,
+            svid: svid(k % streams, len),
+            smp_cnt: (k / streams) as u16,
+            smp_rate: 4000,
+            dataset_ref_len: 0,
+            dataset_ref: [0; 64],
+            timestamp_us: k as u64,
+            t_seconds_since_epoch: 0,
+            t_fraction_of_second: 0,
+        })
+        .collect();
+    let theirs: Vec<SvFrame> = ours
+        .iter()
+        .map(|f| SvFrame {
+            src_mac: f.src_mac,
+            svid_len: f.svid_len,
+            svid: f.svid,
+            smp_cnt: f.smp_cnt,
+            smp_rate: f.smp_rate,
+            dataset_ref_len: f.dataset_ref_len,
+            dataset_ref: f.dataset_ref,
+            timestamp_us: f.timestamp_us,
+            t_seconds_since_epoch: f.t_seconds_since_epoch,
+            t_fraction_of_second: f.t_fraction_of_second,
+        })
+        .collect();
+    let mut verdicts = vec![0u8; frames * 8];
+    let ways = timed(rounds, frames, &mut [
+        &mut || {
+            let mut m = rust::Iec61850Monitor::new();
+            theirs.iter().filter(|f| m.inspect_sv(black_box(f)).allowed).count() as u64
+        },
+        &mut || unsafe {
+            let m = mokyndu_new();
+            let octets = ours.as_ptr().cast();
+            black_box(mokyndu_inspect_sv_batch(m, octets, frames * size_of::<Sv>(), verdicts.as_mut_ptr(), verdicts.len()));
+            verdicts.chunks(8).filter(|v| v[0] == 1).count() as u64
+        },
+        &mut || unsafe {
+            let mut m = mokyndu_new();
+            let mut allowed = 0;
+            for f in &ours {
+                let i = mokyndu_inspect_sv(m, *black_box(f));
+                m = i.monitor;
+                allowed += i.result.allowed as u64;
+            }
+            allowed
+        },
+    ]);
+    row(&format!("SV, {streams} streams, svID of {len} octets"), &ways);
+}
+
+fn goose_row(rounds: usize, frames: usize, streams: usize) {
+    let ours: Vec<Goose> = (0..frames)
+        .map(|k| Goose {
+            src_mac: [2, 0, 0, 0, 0, (k % streams) as u8],
+            go_cb_ref: svid(k % streams, 20),
+            go_cb_ref_len: 20,
+            st_num: 1,
+            sq_num: (k / streams) as u32,
+            test: 0,
+            timestamp_us: k as u64,
+            t_seconds_since_epoch: 0,
+            t_fraction_of_second: 0,
+        })
+        .collect();
+    let theirs: Vec<rust::GooseFrame> = ours
+        .iter()
+        .map(|f| rust::GooseFrame {
+            src_mac: f.src_mac,
+            go_cb_ref: f.go_cb_ref,
+            go_cb_ref_len: f.go_cb_ref_len,
+            st_num: f.st_num,
+            sq_num: f.sq_num,
+            test: f.test != 0,
+            timestamp_us: f.timestamp_us,
+            t_seconds_since_epoch: f.t_seconds_since_epoch,
+            t_fraction_of_second: f.t_fraction_of_second,
+        })
+        .collect();
+    let ways = timed(rounds, frames, &mut [
+        &mut || {
+            let mut m = rust::Iec61850Monitor::new();
+            theirs.iter().filter(|f| m.inspect_goose(black_box(f)).allowed).count() as u64
+        },
+        &mut || unsafe {
+            let mut m = mokyndu_new();
+            let mut allowed = 0;
+            for f in &ours {
+                let i = mokyndu_inspect_goose(m, *black_box(f));
+                m = i.monitor;
+                allowed += i.result.allowed as u64;
+            }
+            allowed
+        },
+    ]);
+    single_row(&format!("GOOSE, {streams} streams"), &ways);
+}
+
+// A row without a batch form.
+fn single_row(name: &str, ways: &[Timed]) {
+    assert_eq!(ways[0].allowed, ways[1].allowed, "{name}: the verdicts differ");
+    let (rust, ours) = (ways[0].best(), ways[1].best());
+    println!("| {name} | {:.0} / {:.0} | | | {:.0} / {:.0} | {:.2} |", rust, ways[0].median(), ours, ways[1].median(), ours / rust);
+}
+
+fn mms_row(rounds: usize, frames: usize) {
+    let ours: Vec<Mms> = (0..frames)
+        .map(|k| Mms {
+            service_type: 4,
+            raw_service_type: 4,
+            domain: svid(0, 20),
+            domain_len: 20,
+            invoke_id: (k % 16) as u32,
+            timestamp_us: k as u64 * 1000,
+            client_id: 1,
+            control_block_is_goose: 0,
+        })
+        .collect();
+    let theirs: Vec<rust::MmsFrame> = ours
+        .iter()
+        .map(|f| rust::MmsFrame {
+            service_type: rust::MmsServiceType::from_u8(f.service_type),
+            raw_service_type: f.raw_service_type,
+            domain: f.domain,
+            domain_len: f.domain_len,
+            invoke_id: f.invoke_id,
+            timestamp_us: f.timestamp_us,
+            client_id: f.client_id,
+            control_block_is_goose: f.control_block_is_goose != 0,
+        })
+        .collect();
+    let ways = timed(rounds, frames, &mut [
+        &mut || {
+            let mut m = rust::Iec61850Monitor::new();
+            m.add_mms_rule(0xFFFF, false, 50).expect("a rule");
+            theirs.iter().filter(|f| m.inspect_mms(black_box(f)).allowed).count() as u64
+        },
+        &mut || unsafe {
+            let mut m = mokyndu_add_mms_rule(mokyndu_new(), 0xFFFF, 0, 50).monitor;
+            let mut allowed = 0;
+            for f in &ours {
+                let i = mokyndu_inspect_mms(m, *black_box(f));
+                m = i.monitor;
+                allowed += i.result.allowed as u64;
+            }
+            allowed
+        },
+    ]);
+    single_row("MMS with rates, 16 keys", &ways);
+}
+
+// A raw SV frame of 39 octets, or more: then samples (tag 87) fill it up. Each part is a tag, its length and its content.
+fn raw_frame(stream: usize, count: u16, octets: usize) -> Vec<u8> {
+    let part = |tag: u8, content: &[u8]| [&[tag, content.len() as u8][..], content].concat();
+    let digits = [b'0' + (stream / 10) as u8, b'0' + (stream % 10) as u8];
+    let mut asdu = [part(0x80, &digits), part(0x82, &count.to_be_bytes())].concat();
+    if octets > 39 {
+        asdu.extend(part(0x87, &vec![0; octets - 41]));
+    }
+    let apdu = part(0x60, &[part(0x80, &[1]), part(0xA2, &part(0x30, &asdu))].concat());
+    let mut frame = vec![1, 0x0C, 0xCD, 4, 0, 1, 2, 0, 0, 0, 0, stream as u8, 0x88, 0xBA, 0x40, 0];
+    frame.extend((apdu.len() as u16 + 8).to_be_bytes());
+    frame.extend([0; 4]);
+    frame.extend(apdu);
+    assert_eq!(frame.len(), octets);
+    frame
+}
+
+fn raw_row(rounds: usize, frames: usize, octets: usize) {
+    let raw: Vec<Vec<u8>> = (0..frames).map(|k| raw_frame(k % 8, (k / 8) as u16, octets)).collect();
+    let ways = timed(rounds, frames, &mut [
+        &mut || {
+            let mut m = rust::Iec61850Monitor::new();
+            let mut allowed = 0;
+            for (k, octets) in raw.iter().enumerate() {
+                if let Ok(f) = rust::Iec61850Monitor::parse_sv(black_box(octets), k as u64) {
+                    allowed += m.inspect_sv(&f).allowed as u64;
+                }
+            }
+            allowed
+        },
+        &mut || unsafe {
+            let mut m = mokyndu_new();
+            let mut allowed = 0;
+            for (k, octets) in raw.iter().enumerate() {
+                let i = mokyndu_inspect_raw_sv(m, black_box(octets).as_ptr(), octets.len(), k as u64);
+                m = i.monitor;
+                allowed += (i.error == 255 && i.result.allowed == 1) as u64;
+            }
+            allowed
+        },
+    ]);
+    assert!(ways[0].allowed > 0, "the raw frames are read");
+    single_row(&format!("raw SV, 8 streams, {octets} octets"), &ways);
+}
+
+fn main() {
+    let mut args = std::env::args().skip(1).map(|a| a.parse().expect("a number"));
+    let rounds = args.next().unwrap_or(7);
+    let frames = args.next().unwrap_or(200_000);
+    println!("{rounds} rounds of {frames} frames; best / median, nanoseconds a frame; ratios of the best times\n");
+    println!("| frames | the Rust | batch | ratio | one call by value | ratio |");
+    println!("|---|---|---|---|---|---|");
+    for len in [4, 30] {
+        for streams in [1, 8, 16, 17] {
+            sv_row(rounds, frames, streams, len);
+        }
+    }
+    goose_row(rounds, frames, 16);
+    goose_row(rounds, frames, 17);
+    mms_row(rounds, frames);
+    raw_row(rounds, frames, 39);
+    raw_row(rounds, frames, 120);
+}
