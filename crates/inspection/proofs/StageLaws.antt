@@ -41,6 +41,7 @@ use Rattle.inspection.specs.declared.rate.RateChecked.{RateChecked}
 use Rattle.inspection.specs.declared.report.CheckAlert.{CheckAlert}
 use Rattle.inspection.specs.declared.report.CheckAlerts.{CheckAlerts}
 use Rattle.inspection.specs.declared.report.CheckAlert.the-variants.{Nothing}
+use Rattle.inspection.specs.declared.reservation.CbReservations.{CbReservations}
 use Rattle.inspection.specs.declared.reservation.CbChecked.{CbChecked}
 use Rattle.inspection.specs.declared.reservation.Reserved.{Reserved}
 use Rattle.inspection.specs.declared.rules.RuleCheck.{RuleCheck}
@@ -55,11 +56,11 @@ use Rattle.inspection.specs.Address.{addressOf}
 use Rattle.inspection.specs.GoosePublisher.{firstFitting, goosePublisher}
 use Rattle.inspection.specs.GooseSeq.{controlBlock, gooseTimed, retxChecked, gooseChecked}
 use Rattle.inspection.specs.InspectGoose.{goosePair, streamFindings, gooseStream, gooseClock, gooseTimeField, gooseBound, gooseReservation, gooseAllowed, blocked, gooseTest}
-use Rattle.inspection.specs.InspectMms.{domainName, fullFindings, mmsReserved, mmsControl, mmsRated, mmsRate, mmsRule, mmsMask}
+use Rattle.inspection.specs.InspectMms.{domainName, fullFindings, mmsReserved, mmsControl, mmsRated, mmsRate, mmsRule, mmsMask, mmsChecks}
 use Rattle.inspection.specs.InspectSv.{svPair, rateFindings, countFindings, svCount, svClock, svTimeField, svRuleCheck, inspectSv, rawInspected, inspectRawSv, svBound, svReservation, svBinding}
 use Rattle.inspection.specs.Monitor.{withAlerts, withReservations, withRates, withClocks, withGooseStreams, withSvStreams}
 use Rattle.inspection.specs.Rate.{rateChecked}
-use Rattle.inspection.specs.Report.{Finding, Checked, refusal, notice, clockFindings, ended, permitted, withAllowed, reportedNext, reported, findingsOf, alertsOf, checkedOf}
+use Rattle.inspection.specs.Report.{Finding, refusal, notice, clockFindings, ended, permitted, withAllowed, reportedNext, reported, findingsOf, alertsOf}
 use Rattle.inspection.specs.Reservation.{reserved, released, cbChecked, cbKeptChecked}
 use Rattle.inspection.specs.SvPublisher.{lastFitting, svPublisher}
 use Rattle.inspection.specs.SvSeq.{svKey, isReplay, svChecked}
@@ -112,12 +113,6 @@ module _ (source sourceNumber time : ℕ) where
   unfolding reported
   pushed-reported m findings e = ap (λ (p : Pushed). record { monitor = withAlerts m (p .counters); result = p .result }) e
 
-  -- a frame counted, then checked and reported
-  pub counted-reported :
-      (checks : ℕ → Checked) {n total : ℕ} {c : Checked} {r : Inspected}
-      → total ≡ n → c ≡ checks total → r ≡ reported source sourceNumber time c → r ≡ reported source sourceNumber time (checks n)
-  counted-reported checks t e r = r ∙ ap (reported source sourceNumber time) (e ∙ ap checks t)
-
 -- ---- MMS: the rules, the bucket, and the control action by the service's number
 
 pub nonzero : (n : ℕ) → ¬ (n ≡ 0) → ltb 0 n ≡ true
@@ -134,13 +129,29 @@ rule-past rules strict write i l m h =
 pub reserved-checked :
     (m : Iec61850Monitor) (first : CheckAlert) {c c′ : Reserved}
     → findingsOf first ≡ fullFindings (c .taken) → c ≡ c′
-    → checkedOf (record { monitor = withReservations m (c .table); first = first; second = Nothing; third = Nothing }) ≡ mmsReserved m c′
+    → ended (withReservations m (c .table)) (alertsOf (record { first = first; second = Nothing; third = Nothing })) ≡ mmsReserved m c′
 reserved-checked m first {c} a e = ap (ended (withReservations m (c .table))) (append-nil (findingsOf first) ∙ a) ∙ ap (mmsReserved m) e
 
 module _ (m : Iec61850Monitor) (f : MmsFrame) where
   -- what the rules say of the frame
-  abbrev pub mmsRuled : RuleCheck
+  abbrev mmsRuled : RuleCheck
   mmsRuled = mmsMask (m .settings) (m .rules .mms) (f .«raw_service_type») (isWrite (f .«service_type»))
+
+  -- and checking ends or goes on
+  module _ {write : Bool} {answer : RuleCheck} (w : write ≡ isWrite (f .«service_type»))
+      (r : answer ≡ mmsMask (m .settings) (m .rules .mms) (f .«raw_service_type») write) where
+    mms-ruled : answer ≡ mmsRuled
+    mms-ruled = r ∙ ap (mmsMask (m .settings) (m .rules .mms) (f .«raw_service_type»)) w
+
+    pub mms-refused :
+        {severity : AlertSeverity} {code : AlertCode} {alerts : List Finding}
+        → answer ≡ Refused severity code → alerts ≡ refusal severity code ∷ [] → ended m alerts ≡ mmsChecks m f
+    unfolding mmsChecks
+    mms-refused g h = ap (ended m) h ∙ ap (permitted m (mmsRate m f)) (answered g mms-ruled)
+
+    pub mms-permitted : {rate : ℕ} → answer ≡ Rate rate → mmsRate m f rate ≡ mmsChecks m f
+    unfolding mmsChecks
+    mms-permitted g = ap (permitted m (mmsRate m f)) (answered g mms-ruled)
 
   -- a rate of 0 is no limit
   pub no-rate-limit : {rate : ℕ} → rate ≡ 0 → mmsControl m f ≡ mmsRate m f rate
@@ -155,42 +166,35 @@ module _ (m : Iec61850Monitor) (f : MmsFrame) where
     pub rate-allowed : c .allowed ≡ true → mmsControl (withRates m (c .table)) f ≡ mmsRate m f rate
     rate-allowed a = sym (cond-yes _ _ a) ∙ rated
 
-    pub rate-exceeded : c .allowed ≡ false → ended (withRates m (c .table)) (refusal Medium RateExceeded ∷ []) ≡ mmsRate m f rate
-    rate-exceeded a = sym (cond-no _ _ a) ∙ rated
+    pub rate-exceeded :
+        {alerts : List Finding} → c .allowed ≡ false → alerts ≡ refusal Medium RateExceeded ∷ []
+        → ended (withRates m (c .table)) alerts ≡ mmsRate m f rate
+    rate-exceeded a h = ap (ended (withRates m (c .table))) h ∙ sym (cond-no _ _ a) ∙ rated
 
-  abbrev mmsReleased : Checked
-  mmsReleased = ended (withReservations m (released (m .«cb_reservations») (domainName f) (f .«control_block_is_goose») (f .«client_id»))) []
-
-  abbrev number : ℕ
-  number = serviceNumber (f .«service_type»)
-
-  module _ {n : ℕ} (e : n ≡ number) where
-    is : {k : ℕ} → n ≡ k → eqb number k ≡ true
-    is h = eq-eqb _ _ (sym e ∙ h)
-
-    is-not : {k : ℕ} → ¬ (n ≡ k) → eqb number k ≡ false
-    is-not d = ne-eqb _ _ (λ x. d (e ∙ x))
-
+  -- the control actions, by the service's number
+  module _ {n : ℕ} (e : n ≡ serviceNumber (f .«service_type»)) where
     pub select-reserves :
         n ≡ 11 → mmsReserved m (reserved (m .«cb_reservations») (domainName f) (f .«control_block_is_goose») (f .«client_id»)) ≡ mmsControl m f
     unfolding mmsControl
-    select-reserves h = sym (cond-yes _ _ (is h))
+    select-reserves h = sym (cond-yes _ _ (eq-eqb _ _ (sym e ∙ h)))
 
-    module _ (d : ¬ (n ≡ 11)) where
-      releases : (eqb number 12 || eqb number 10) ≡ true → mmsReleased ≡ mmsControl m f
+    module _ (d : ¬ (n ≡ 11)) {x : Bool} (q : x ≡ (eqb n 12 || eqb n 10)) where
+      not-select : eqb (serviceNumber (f .«service_type»)) 11 ≡ false
+      not-select = ne-eqb _ _ (λ h. d (e ∙ h))
+
+      by-number : x ≡ (eqb (serviceNumber (f .«service_type»)) 12 || eqb (serviceNumber (f .«service_type»)) 10)
+      by-number = q ∙ ap (λ (k : ℕ). eqb k 12 || eqb k 10) e
+
+      pub control-releases :
+          {t : CbReservations} {alerts : List Finding} → x ≡ true
+          → t ≡ released (m .«cb_reservations») (domainName f) (f .«control_block_is_goose») (f .«client_id») → alerts ≡ []
+          → ended (withReservations m t) alerts ≡ mmsControl m f
       unfolding mmsControl
-      releases h = sym (cond-no _ _ (is-not d) ∙ cond-yes _ _ h)
+      control-releases h r a = (λ i. ended (withReservations m (r i)) (a i)) ∙ sym (cond-no _ _ not-select ∙ cond-yes _ _ (answered by-number h))
 
-      pub cancel-releases : n ≡ 12 → mmsReleased ≡ mmsControl m f
-      cancel-releases h = releases (ap (λ (b : Bool). b || eqb number 10) (is h))
-
-      module _ (d′ : ¬ (n ≡ 12)) where
-        pub conclude-releases : n ≡ 10 → mmsReleased ≡ mmsControl m f
-        conclude-releases h = releases (λ i. is-not d′ i || is h i)
-
-        pub no-control : ¬ (n ≡ 10) → ended m [] ≡ mmsControl m f
-        unfolding mmsControl
-        no-control d″ = sym (cond-no _ _ (is-not d) ∙ cond-no _ _ (λ i. is-not d′ i || is-not d″ i))
+      pub no-control : {alerts : List Finding} → x ≡ false → alerts ≡ [] → ended m alerts ≡ mmsControl m f
+      unfolding mmsControl
+      no-control h a = ap (ended m) a ∙ sym (cond-no _ _ not-select ∙ cond-no _ _ (answered by-number h))
 
 -- ---- GOOSE: the publishers, the reservation, then clock, retransmission and stream
 
@@ -329,7 +333,7 @@ module _ (m : Iec61850Monitor) (f : SvFrame) where
 
   module _ (rate : ℕ) {address : ℕ} (e : address ≡ addressOf (f .«src_mac»)) where
     -- the reservation of the data set, looked up for the address
-    pub sv-used :
+    sv-used :
         {used : CbChecked}
         → used ≡ cbChecked (m .«cb_reservations») (nameOf (f .«dataset_ref») (f .«dataset_ref_len»)) false address
         → svBound m f rate used ≡ svReservation m f rate
@@ -354,7 +358,7 @@ module _ (m : Iec61850Monitor) (f : SvFrame) where
         → findingsOf first ≡ clockFindings (clock .alert)
         → findingsOf second ≡ countFindings (m .settings .«sv_max_smp_cnt_gap») [] (count .outcome)
         → findingsOf third ≡ cond replay [] (rateFindings (f .«smp_rate») rate)
-        → checkedOf (record { monitor = withSvStreams (withClocks m (clock .table)) (count .table); first = first; second = second; third = third })
+        → ended (withSvStreams (withClocks m (clock .table)) (count .table)) (alertsOf (record { first = first; second = second; third = third }))
         ≡ svTimeField m f rate
     unfolding svTimeField
     sv-time-field-checked first second third {clock} {count} {replay} t s r a b d =

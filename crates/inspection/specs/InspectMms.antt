@@ -15,7 +15,9 @@ use Rattle.records.specs.Service.{serviceNumber, isWrite}
 use Rattle.inspection.specs.declared.mms_rule.MmsRules.{MmsRules}
 use Rattle.inspection.specs.declared.monitor.Iec61850Monitor.{Iec61850Monitor}
 use Rattle.inspection.specs.declared.monitor.Inspected.{Inspected}
+use Rattle.inspection.specs.declared.rate.RateBuckets.{RateBuckets}
 use Rattle.inspection.specs.declared.rate.RateChecked.{RateChecked}
+use Rattle.inspection.specs.declared.reservation.CbReservations.{CbReservations}
 use Rattle.inspection.specs.declared.reservation.Reserved.{Reserved}
 use Rattle.inspection.specs.declared.rules.RuleCheck.{RuleCheck}
 use Rattle.inspection.specs.declared.rules.RuleCheck.the-variants.{Refused, Rate}
@@ -81,3 +83,19 @@ mmsChecks m f =
 -- the monitor after an MMS frame, and the result
 unfoldable pub inspectMms : Iec61850Monitor → MmsFrame → Inspected
 inspectMms m f = reported sourceMms (f .«invoke_id») (f .«timestamp_us») (mmsChecks (countedMms m) f)
+
+-- ---- the checks over the columns of a monitor, for the code
+
+-- a monitor with these parts in place of its own: what an MMS inspection reads and changes
+abbrev pub withMmsParts : Iec61850Monitor → Settings → MmsRules → RateBuckets → CbReservations → Iec61850Monitor
+withMmsParts m settings rules rates reservations =
+    record {
+      settings = settings;
+      rules = record { mms = rules; goose = m .rules .goose; sv = m .rules .sv };
+      «rate_buckets» = rates;
+      «goose_seq» = m .«goose_seq»;
+      «sv_seq» = m .«sv_seq»;
+      «time_trackers» = m .«time_trackers»;
+      «cb_reservations» = reservations;
+      totals = m .totals;
+    }

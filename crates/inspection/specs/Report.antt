@@ -14,7 +14,6 @@ use Rattle.inspection.specs.declared.monitor.Inspected.{Inspected}
 use Rattle.inspection.specs.declared.report.CheckAlert.{CheckAlert}
 use Rattle.inspection.specs.declared.report.CheckAlert.the-variants.{Nothing, Refusal, Notice}
 use Rattle.inspection.specs.declared.report.CheckAlerts.{CheckAlerts}
-use Rattle.inspection.specs.declared.report.AfterChecks.{AfterChecks}
 use Rattle.inspection.specs.declared.rules.RuleCheck.{RuleCheck}
 use Rattle.inspection.specs.declared.rules.RuleCheck.the-variants.{Refused, Rate}
 use Rattle.inspection.specs.Monitor.{withAlerts}
@@ -88,6 +87,3 @@ findingsOf (Notice severity code) = notice severity code ∷ []
 -- the alerts of three answers in their order
 abbrev pub alertsOf : CheckAlerts → List Finding
 alertsOf a = findingsOf (a .first) ++ (findingsOf (a .second) ++ findingsOf (a .third))
-
-abbrev pub checkedOf : AfterChecks → Checked
-checkedOf c = ended (c .monitor) (alertsOf (record { first = c .first; second = c .second; third = c .third }))

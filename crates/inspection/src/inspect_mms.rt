@@ -1,33 +1,43 @@
 // The inspection of an MMS frame, carried over from industrial/iec61850-monitor/src/lib.rs of craton-shield a31d888527
-// (Apache-2.0) and changed: the rules decide first, then the bucket and the reservations are used; the alerts are added at the end.
+// (Apache-2.0) and changed: the rules decide first, then the bucket and the reservations are used, over lent columns; the alerts are
+// added at the end.
+ghost use Prim.Native.Nat.{ℕ};
 ghost use mathlib.Core.Path.{_≡_};
-ghost use mathlib.Core.Bool.{_&&_, not};
-ghost use mathlib.Core.List.{[]};
-ghost use lib.Dec.{ltb};
-ghost use Rattle.inspection.specs.InspectMms.{domainName, fullFindings, mmsReserved, mmsControl, mmsRate, mmsRule, mmsMask, mmsChecks, inspectMms};
+ghost use mathlib.Core.Bool.{Bool, _&&_, _||_, not};
+ghost use mathlib.Core.List.{List};
+ghost use lib.Dec.{eqb, ltb};
+ghost use Rattle.inspection.specs.InspectMms.{domainName, fullFindings, mmsReserved, mmsControl, mmsRate, mmsRule, mmsMask, mmsChecks, inspectMms, withMmsParts};
 ghost use Rattle.inspection.specs.MmsRule.{hasBit};
-ghost use Rattle.inspection.specs.Monitor.{withReservations};
-ghost use Rattle.inspection.specs.Report.{ended, findingsOf, checkedOf};
-ghost use Rattle.inspection.specs.Reservation.{reserved, released};
+ghost use Rattle.inspection.specs.Monitor.{withRates, withReservations};
+ghost use Rattle.inspection.specs.Rate.{bucketTableOf};
+ghost use Rattle.inspection.specs.Report.{ended, findingsOf, alertsOf};
+ghost use Rattle.inspection.specs.Reservation.{reserved, released, cbTableOf};
 use crate::mms_rule::MmsRules;
 use crate::mms_rule::first_rule;
 use crate::mms_rule::has_bit;
 use crate::monitor::Iec61850Monitor;
 use crate::monitor::Inspected;
-use crate::rate::rate_check;
-use crate::report::AfterChecks;
+use crate::rate::RateBuckets;
+use crate::rate::rate_check_in;
 use crate::report::CheckAlert;
-use crate::report::ended;
-use crate::report::report;
-use crate::reservation::release_cb;
-use crate::reservation::reserve_cb;
+use crate::report::CheckAlerts;
+use crate::report::no_alerts;
+use crate::report::push_alerts;
+use crate::report::refused;
+use crate::reservation::CbReservations;
+use crate::reservation::release_cb_in;
+use crate::reservation::reserve_cb_in;
 use crate::rules::RuleCheck;
 use crate::settings::Settings;
+use records::ageing::Ageing;
 use records::alert::AlertCode;
 use records::alert::AlertSeverity;
 use records::alert::SOURCE_IEC61850_MMS;
 use records::counter::saturating_increment;
 use records::frame::MmsFrame;
+use records::name::Names;
+use records::name::padded;
+use records::name::valid_len;
 use records::search::Found;
 
 // Whether a mask refuses a raw number; a mask of 0 refuses none.
@@ -89,104 +99,219 @@ fn full_alert(taken: bool) -> CheckAlert
 }
 
 // SelectControl reserves the control block that it names.
-fn mms_reserve(m: Iec61850Monitor, f: MmsFrame) -> AfterChecks
-    ensures { λ r. ⌜ checkedOf r ≡ mmsReserved m (reserved (m .«cb_reservations») (domainName f) (f .«control_block_is_goose») (f .«client_id»)) ⌝ }
+fn mms_reserve<'a>(
+    f: MmsFrame,
+    cb_refs: &'a mut [u8; 1024],
+    cb_lens: &'a mut [u8; 16],
+    cb_kinds: &'a mut [bool; 16],
+    cb_owners: &'a mut [u32; 16],
+    cb_bound: &'a mut [bool; 16],
+    cb_macs: &'a mut [u64; 16],
+    cb_active: &'a mut [bool; 16],
+) -> CheckAlerts
+    ensures { λ r.
+        ⌜ ((m : Iec61850Monitor) → ended (withReservations m (cbTableOf (now («cb_refs» .exit)) (now («cb_lens» .exit)) (now («cb_kinds» .exit)) (now («cb_owners» .exit)) (now («cb_bound» .exit)) (now («cb_macs» .exit)) (now («cb_active» .exit)))) (alertsOf r) ≡ mmsReserved m (reserved (cbTableOf (now («cb_refs» .entry)) (now («cb_lens» .entry)) (now («cb_kinds» .entry)) (now («cb_owners» .entry)) (now («cb_bound» .entry)) (now («cb_macs» .entry)) (now («cb_active» .entry))) (domainName f) (f .«control_block_is_goose») (f .«client_id»))) ⌝ }
 {
-    let mut out = m;
-    let name = f.domain;
-    let reservations = out.cb_reservations;
-    let reserved = reserve_cb(
-        reservations,
-        name,
-        f.domain_len,
+    let len = valid_len(f.domain_len);
+    let name = padded(&f.domain, len);
+    let taken = reserve_cb_in(
+        cb_refs,
+        cb_lens,
+        cb_kinds,
+        cb_owners,
+        cb_bound,
+        cb_macs,
+        cb_active,
+        &name,
+        len,
         f.client_id,
         f.control_block_is_goose,
     );
-    let kept = reserved.table;
-    out.cb_reservations = kept;
-    AfterChecks {
-        monitor: out,
-        first: full_alert(reserved.taken),
+    CheckAlerts {
+        first: full_alert(taken),
         second: CheckAlert::Nothing,
         third: CheckAlert::Nothing,
     }
 }
 
 // CancelControl and Conclude release the client's reservation of the name, with an empty name all of the client's.
-fn mms_release(m: Iec61850Monitor, f: MmsFrame) -> AfterChecks
-    ensures { λ r. ⌜ checkedOf r ≡ ended (withReservations m (released (m .«cb_reservations») (domainName f) (f .«control_block_is_goose») (f .«client_id»))) [] ⌝ }
+fn mms_release<'a>(
+    f: MmsFrame,
+    cb_refs: &'a [u8; 1024],
+    cb_lens: &'a [u8; 16],
+    cb_kinds: &'a [bool; 16],
+    cb_owners: &'a [u32; 16],
+    cb_active: &'a mut [bool; 16],
+)
+    ensures { λ _.
+        ⌜ ((bound : List Bool) (addresses : List ℕ) → cbTableOf (now («cb_refs» .entry)) (now («cb_lens» .entry)) (now («cb_kinds» .entry)) (now («cb_owners» .entry)) bound addresses (now («cb_active» .exit)) ≡ released (cbTableOf (now («cb_refs» .entry)) (now («cb_lens» .entry)) (now («cb_kinds» .entry)) (now («cb_owners» .entry)) bound addresses (now («cb_active» .entry))) (domainName f) (f .«control_block_is_goose») (f .«client_id»)) ⌝ }
 {
-    let mut out = m;
-    let name = f.domain;
-    let reservations = out.cb_reservations;
-    let kept = release_cb(
-        reservations,
-        name,
-        f.domain_len,
+    let len = valid_len(f.domain_len);
+    let name = padded(&f.domain, len);
+    release_cb_in(
+        cb_refs,
+        cb_lens,
+        cb_kinds,
+        cb_owners,
+        cb_active,
+        &name,
+        len,
         f.client_id,
         f.control_block_is_goose,
     );
-    out.cb_reservations = kept;
-    AfterChecks {
-        monitor: out,
-        first: CheckAlert::Nothing,
-        second: CheckAlert::Nothing,
-        third: CheckAlert::Nothing,
+}
+
+// Whether a service of this number gives up reservations: CancelControl 12 and Conclude 10.
+fn releases(number: u8) -> bool
+    ensures { λ r. ⌜ r ≡ (eqb number 12 || eqb number 10) ⌝ }
+{
+    if number == 12 {
+        return true;
     }
+    number == 10
 }
 
 // The control actions, by the service and not its raw number.
-fn mms_control(m: Iec61850Monitor, f: MmsFrame) -> AfterChecks
-    ensures { λ r. ⌜ checkedOf r ≡ mmsControl m f ⌝ }
+fn mms_control<'a>(
+    f: MmsFrame,
+    cb_refs: &'a mut [u8; 1024],
+    cb_lens: &'a mut [u8; 16],
+    cb_kinds: &'a mut [bool; 16],
+    cb_owners: &'a mut [u32; 16],
+    cb_bound: &'a mut [bool; 16],
+    cb_macs: &'a mut [u64; 16],
+    cb_active: &'a mut [bool; 16],
+) -> CheckAlerts
+    ensures { λ r.
+        ⌜ ((m : Iec61850Monitor) → ended (withReservations m (cbTableOf (now («cb_refs» .exit)) (now («cb_lens» .exit)) (now («cb_kinds» .exit)) (now («cb_owners» .exit)) (now («cb_bound» .exit)) (now («cb_macs» .exit)) (now («cb_active» .exit)))) (alertsOf r) ≡ mmsControl (withReservations m (cbTableOf (now («cb_refs» .entry)) (now («cb_lens» .entry)) (now («cb_kinds» .entry)) (now («cb_owners» .entry)) (now («cb_bound» .entry)) (now («cb_macs» .entry)) (now («cb_active» .entry)))) f) ⌝ }
 {
     let service = f.service_type;
     let number = service.number();
     if number == 11 {
-        return mms_reserve(m, f);
+        return mms_reserve(
+            f,
+            cb_refs,
+            cb_lens,
+            cb_kinds,
+            cb_owners,
+            cb_bound,
+            cb_macs,
+            cb_active,
+        );
     }
-    if number == 12 {
-        return mms_release(m, f);
+    if releases(number) {
+        mms_release(f, cb_refs, cb_lens, cb_kinds, cb_owners, cb_active);
+        return no_alerts();
     }
-    if number == 10 {
-        return mms_release(m, f);
-    }
-    AfterChecks {
-        monitor: m,
-        first: CheckAlert::Nothing,
-        second: CheckAlert::Nothing,
-        third: CheckAlert::Nothing,
-    }
+    no_alerts()
 }
 
 // The bucket of a rule with a rate, which may end the checking; then the control action.
-fn mms_rate(m: Iec61850Monitor, f: MmsFrame, rate: u16) -> AfterChecks
-    ensures { λ r. ⌜ checkedOf r ≡ mmsRate m f rate ⌝ }
+fn mms_rate<'a>(
+    f: MmsFrame,
+    rate: u16,
+    keys: &'a mut [u64; 16],
+    tokens: &'a mut [u16; 16],
+    capacity: &'a mut [u16; 16],
+    last_refill_us: &'a mut [u64; 16],
+    active: &'a mut [bool; 16],
+    used: &'a mut [u32; 16],
+    tick: &'a mut u32,
+    cb_refs: &'a mut [u8; 1024],
+    cb_lens: &'a mut [u8; 16],
+    cb_kinds: &'a mut [bool; 16],
+    cb_owners: &'a mut [u32; 16],
+    cb_bound: &'a mut [bool; 16],
+    cb_macs: &'a mut [u64; 16],
+    cb_active: &'a mut [bool; 16],
+) -> CheckAlerts
+    ensures { λ r.
+        ⌜ ((m : Iec61850Monitor) → ended (withReservations (withRates m (bucketTableOf (now (keys .exit)) (now (tokens .exit)) (now (capacity .exit)) (now («last_refill_us» .exit)) (now (active .exit)) (now (used .exit)) (now (tick .exit)))) (cbTableOf (now («cb_refs» .exit)) (now («cb_lens» .exit)) (now («cb_kinds» .exit)) (now («cb_owners» .exit)) (now («cb_bound» .exit)) (now («cb_macs» .exit)) (now («cb_active» .exit)))) (alertsOf r) ≡ mmsRate (withReservations (withRates m (bucketTableOf (now (keys .entry)) (now (tokens .entry)) (now (capacity .entry)) (now («last_refill_us» .entry)) (now (active .entry)) (now (used .entry)) (now (tick .entry)))) (cbTableOf (now («cb_refs» .entry)) (now («cb_lens» .entry)) (now («cb_kinds» .entry)) (now («cb_owners» .entry)) (now («cb_bound» .entry)) (now («cb_macs» .entry)) (now («cb_active» .entry)))) f rate) ⌝ }
 {
     if rate == 0 {
-        return mms_control(m, f);
+        return mms_control(
+            f,
+            cb_refs,
+            cb_lens,
+            cb_kinds,
+            cb_owners,
+            cb_bound,
+            cb_macs,
+            cb_active,
+        );
     }
-    let mut out = m;
-    let buckets = out.rate_buckets;
-    let checked = rate_check(buckets, f.invoke_id, rate, f.timestamp_us);
-    let kept = checked.table;
-    out.rate_buckets = kept;
-    if checked.allowed {
-        return mms_control(out, f);
+    let allowed = rate_check_in(
+        keys,
+        tokens,
+        capacity,
+        last_refill_us,
+        active,
+        used,
+        tick,
+        f.invoke_id,
+        rate,
+        f.timestamp_us,
+    );
+    if !allowed {
+        return refused(AlertSeverity::Medium, AlertCode::RateExceeded);
     }
-    ended(out, AlertSeverity::Medium, AlertCode::RateExceeded)
+    mms_control(
+        f,
+        cb_refs,
+        cb_lens,
+        cb_kinds,
+        cb_owners,
+        cb_bound,
+        cb_macs,
+        cb_active,
+    )
 }
 
 // The rules, which may end the checking; then the bucket and the control action.
-fn mms_checks(m: Iec61850Monitor, f: MmsFrame) -> AfterChecks
-    ensures { λ r. ⌜ checkedOf r ≡ mmsChecks m f ⌝ }
+pub fn mms_checks<'a>(
+    f: MmsFrame,
+    settings: Settings,
+    rules: MmsRules,
+    keys: &'a mut [u64; 16],
+    tokens: &'a mut [u16; 16],
+    capacity: &'a mut [u16; 16],
+    last_refill_us: &'a mut [u64; 16],
+    active: &'a mut [bool; 16],
+    used: &'a mut [u32; 16],
+    tick: &'a mut u32,
+    cb_refs: &'a mut [u8; 1024],
+    cb_lens: &'a mut [u8; 16],
+    cb_kinds: &'a mut [bool; 16],
+    cb_owners: &'a mut [u32; 16],
+    cb_bound: &'a mut [bool; 16],
+    cb_macs: &'a mut [u64; 16],
+    cb_active: &'a mut [bool; 16],
+) -> CheckAlerts
+    ensures { λ r.
+        ⌜ ((m : Iec61850Monitor) → ended (withMmsParts m settings rules (bucketTableOf (now (keys .exit)) (now (tokens .exit)) (now (capacity .exit)) (now («last_refill_us» .exit)) (now (active .exit)) (now (used .exit)) (now (tick .exit))) (cbTableOf (now («cb_refs» .exit)) (now («cb_lens» .exit)) (now («cb_kinds» .exit)) (now («cb_owners» .exit)) (now («cb_bound» .exit)) (now («cb_macs» .exit)) (now («cb_active» .exit)))) (alertsOf r) ≡ mmsChecks (withMmsParts m settings rules (bucketTableOf (now (keys .entry)) (now (tokens .entry)) (now (capacity .entry)) (now («last_refill_us» .entry)) (now (active .entry)) (now (used .entry)) (now (tick .entry))) (cbTableOf (now («cb_refs» .entry)) (now («cb_lens» .entry)) (now («cb_kinds» .entry)) (now («cb_owners» .entry)) (now («cb_bound» .entry)) (now («cb_macs» .entry)) (now («cb_active» .entry)))) f) ⌝ }
 {
     let service = f.service_type;
-    let settings = m.settings;
-    let rules = m.rules.mms;
     let raw = f.raw_service_type;
     match mms_mask(settings, rules, raw, service.is_write()) {
-        RuleCheck::Refused(severity, code) => ended(m, severity, code),
-        RuleCheck::Rate(rate) => mms_rate(m, f, rate),
+        RuleCheck::Refused(severity, code) => refused(severity, code),
+        RuleCheck::Rate(rate) => mms_rate(
+            f,
+            rate,
+            keys,
+            tokens,
+            capacity,
+            last_refill_us,
+            active,
+            used,
+            tick,
+            cb_refs,
+            cb_lens,
+            cb_kinds,
+            cb_owners,
+            cb_bound,
+            cb_macs,
+            cb_active,
+        ),
     }
 }
 
@@ -195,15 +320,83 @@ impl Iec61850Monitor {
     pub fn inspect_mms(self, frame: MmsFrame) -> Inspected
         ensures { λ r. ⌜ r ≡ inspectMms self frame ⌝ }
     {
-        let mut out = self;
-        let total = saturating_increment(self.totals.mms_total_inspected);
-        out.totals.mms_total_inspected = total;
-        let checked = mms_checks(out, frame);
-        report(
-            checked,
+        let settings = self.settings;
+        let rules = self.rules.mms;
+        let mut keys = self.rate_buckets.key;
+        let mut tokens = self.rate_buckets.tokens;
+        let mut capacity = self.rate_buckets.capacity;
+        let mut last_refill_us = self.rate_buckets.last_refill_us;
+        let mut active = self.rate_buckets.ageing.active;
+        let mut used = self.rate_buckets.ageing.last_used;
+        let mut tick = self.rate_buckets.ageing.tick;
+        let mut cb_refs = self.cb_reservations.cb_ref.octets;
+        let mut cb_lens = self.cb_reservations.cb_ref.lens;
+        let mut cb_kinds = self.cb_reservations.is_goose;
+        let mut cb_owners = self.cb_reservations.owner_client_id;
+        let mut cb_bound = self.cb_reservations.bound;
+        let mut cb_macs = self.cb_reservations.bound_src_mac;
+        let mut cb_active = self.cb_reservations.active;
+        let alerts = mms_checks(
+            frame,
+            settings,
+            rules,
+            &mut keys,
+            &mut tokens,
+            &mut capacity,
+            &mut last_refill_us,
+            &mut active,
+            &mut used,
+            &mut tick,
+            &mut cb_refs,
+            &mut cb_lens,
+            &mut cb_kinds,
+            &mut cb_owners,
+            &mut cb_bound,
+            &mut cb_macs,
+            &mut cb_active,
+        );
+        let mut totals = self.totals;
+        let counters = totals.alerts;
+        let pushed = push_alerts(
+            counters,
+            alerts,
             SOURCE_IEC61850_MMS,
             frame.invoke_id,
             frame.timestamp_us,
-        )
+        );
+        let counted = pushed.counters;
+        totals.mms_total_inspected = saturating_increment(self.totals.mms_total_inspected);
+        totals.alerts = counted;
+        let buckets = RateBuckets {
+            key: keys,
+            tokens: tokens,
+            capacity: capacity,
+            last_refill_us: last_refill_us,
+            ageing: Ageing {
+                active: active,
+                last_used: used,
+                tick: tick,
+            },
+        };
+        let reservations = CbReservations {
+            cb_ref: Names {
+                octets: cb_refs,
+                lens: cb_lens,
+            },
+            is_goose: cb_kinds,
+            owner_client_id: cb_owners,
+            bound: cb_bound,
+            bound_src_mac: cb_macs,
+            active: cb_active,
+        };
+        let mut out = self;
+        out.rate_buckets = buckets;
+        out.cb_reservations = reservations;
+        out.totals = totals;
+        let result = pushed.result;
+        Inspected {
+            monitor: out,
+            result: result,
+        }
     }
 }

@@ -3,9 +3,7 @@
 ghost use mathlib.Core.Path.{_≡_};
 ghost use mathlib.Core.List.{[], _∷_, foldl};
 ghost use Rattle.records.specs.Result.{cleanResult};
-ghost use Rattle.inspection.specs.Report.{refusal, clockFindings, ended, findingsOf, checkedOf, reportedNext, reported, alertsOf};
-use crate::monitor::Iec61850Monitor;
-use crate::monitor::Inspected;
+ghost use Rattle.inspection.specs.Report.{refusal, clockFindings, findingsOf, alertsOf, reportedNext};
 use records::alert::AlertCode;
 use records::alert::AlertSeverity;
 use records::result::AlertCounters;
@@ -26,32 +24,23 @@ pub struct CheckAlerts {
     pub third: CheckAlert,
 }
 
-// The monitor after the checks of an inspection, and what they found.
-pub struct AfterChecks {
-    pub monitor: Iec61850Monitor,
-    pub first: CheckAlert,
-    pub second: CheckAlert,
-    pub third: CheckAlert,
-}
-
-// Checking ends with one alert.
-pub fn ended(m: Iec61850Monitor, severity: AlertSeverity, code: AlertCode) -> AfterChecks
-    ensures { λ r. ⌜ checkedOf r ≡ ended m (refusal severity code ∷ []) ⌝ }
-{
-    AfterChecks {
-        monitor: m,
-        first: CheckAlert::Refusal(severity, code),
-        second: CheckAlert::Nothing,
-        third: CheckAlert::Nothing,
-    }
-}
-
 // One alert, which refuses the frame and ends the checking.
 pub fn refused(severity: AlertSeverity, code: AlertCode) -> CheckAlerts
     ensures { λ r. ⌜ alertsOf r ≡ refusal severity code ∷ [] ⌝ }
 {
     CheckAlerts {
         first: CheckAlert::Refusal(severity, code),
+        second: CheckAlert::Nothing,
+        third: CheckAlert::Nothing,
+    }
+}
+
+// No check found anything.
+pub fn no_alerts() -> CheckAlerts
+    ensures { λ r. ⌜ alertsOf r ≡ [] ⌝ }
+{
+    CheckAlerts {
+        first: CheckAlert::Nothing,
         second: CheckAlert::Nothing,
         third: CheckAlert::Nothing,
     }
@@ -107,30 +96,4 @@ pub fn push_alerts(
     let two = push_alert(one, second, source_type, source_id, ts_us);
     let third = alerts.third;
     push_alert(two, third, source_type, source_id, ts_us)
-}
-
-// The result of an inspection, and the monitor with the alerts counted.
-pub fn report(c: AfterChecks, source_type: u8, source_id: u32, ts_us: u64) -> Inspected
-    ensures { λ r. ⌜ r ≡ reported «source_type» «source_id» «ts_us» (checkedOf c) ⌝ }
-{
-    let first = c.first;
-    let second = c.second;
-    let third = c.third;
-    let alerts = CheckAlerts {
-        first: first,
-        second: second,
-        third: third,
-    };
-    let mut out = c.monitor;
-    let mut totals = out.totals;
-    let counters = totals.alerts;
-    let pushed = push_alerts(counters, alerts, source_type, source_id, ts_us);
-    let counted = pushed.counters;
-    totals.alerts = counted;
-    out.totals = totals;
-    let result = pushed.result;
-    Inspected {
-        monitor: out,
-        result: result,
-    }
 }

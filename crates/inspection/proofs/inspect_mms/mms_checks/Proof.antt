@@ -1,19 +1,21 @@
 -- `mms_checks` meets its contract.
-use mathlib.Core.Path.{_≡_, _∙_, ap}
+use mathlib.Core.Path.{_∙_}
 use borrow.Author.Needs.{needs}
-use Rattle.records.proofs.Booleans.{answered}
-use Rattle.inspection.specs.InspectMms.{mmsMask, mmsChecks}
-use Rattle.inspection.specs.Report.{permitted}
-use Rattle.inspection.proofs.StageLaws.{mmsRuled}
+use Rattle.inspection.specs.declared.monitor.Iec61850Monitor.{Iec61850Monitor}
+use Rattle.inspection.specs.InspectMms.{withMmsParts}
+use Rattle.inspection.specs.Rate.{bucketTableOf}
+use Rattle.inspection.specs.Reservation.{cbTableOf}
+use Rattle.inspection.proofs.StageLaws.{mms-refused, mms-permitted}
 use Rattle.inspection.proofs.inspect_mms.mms_checks.Statement.{statement}
 use Rattle.inspection.proofs.inspect_mms.mms_checks.Tie as tie
 
-abbrev start : tie.After-mms-mask → tie.Start
-start n = n .before .before .before .before
-
--- what the rules say, by the frame's own service
-ruled : (n : tie.After-mms-mask) → n .mms-mask .result ≡ mmsRuled (start n .args .m) (start n .args .f)
-ruled n = n .mms-mask .ensures ∙ ap (mmsMask (start n .args .m .settings) (start n .args .m .rules .mms) _) (n .before .is-write .ensures)
+-- a monitor with the columns at the start
+abbrev whole : tie.Start → Iec61850Monitor → Iec61850Monitor
+whole s m =
+    let a = s .args in
+    withMmsParts m (a .settings) (a .rules)
+    (bucketTableOf (a .keys .now) (a .tokens .now) (a .capacity .now) (a .last-refill-us .now) (a .active .now) (a .used .now) (a .tick .now))
+    (cbTableOf (a .cb-refs .now) (a .cb-lens .now) (a .cb-kinds .now) (a .cb-owners .now) (a .cb-bound .now) (a .cb-macs .now) (a .cb-active .now))
 
 is-write-requires : tie.Need-is-write-requires
 is-write-requires c κs = search needs
@@ -24,8 +26,8 @@ mms-mask-requires c κs = search needs
 enum-known-severity : tie.Need-enum-known-severity
 enum-known-severity c = search needs
 
-ended-requires : tie.Need-ended-requires
-ended-requires c κs = search needs
+refused-requires : tie.Need-refused-requires
+refused-requires c κs = search needs
 
 enum-known-rate : tie.Need-enum-known-rate
 enum-known-rate c = search needs
@@ -34,12 +36,18 @@ mms-rate-requires : tie.Need-mms-rate-requires
 mms-rate-requires c κs = search needs
 
 returns : tie.Need-returns
-unfolding mmsChecks
-returns c = c .ended .ensures ∙ ap (permitted _ _) (answered (c .before .before .severity .given .1) (ruled (c .before .before .before .before)))
+returns c m =
+    let n = c .before .before .before .before in
+    let s = n .before .before in
+    mms-refused (whole s m) (s .args .f) (n .before .is-write .ensures) (n .mms-mask .ensures) (c .before .before .severity .given .1) (c .refused .ensures)
 
 returns-2 : tie.Need-returns-2
-unfolding mmsChecks
-returns-2 c = c .mms-rate .ensures ∙ ap (permitted _ _) (answered (c .before .before .rate .given .1) (ruled (c .before .before .before .before)))
+returns-2 c m =
+    let r = c .before .before .before .before .before .before .before .before .before .before .before .before .before .before .before .before in
+    let n = r .before .before in
+    let s = n .before .before in
+    c .mms-rate .ensures (whole s m)
+    ∙ mms-permitted (whole s m) (s .args .f) (n .before .is-write .ensures) (n .mms-mask .ensures) (r .rate .given .1)
 
 pub mms-checks-spec : {M : Type 1} → statement M
 mms-checks-spec =
@@ -48,7 +56,7 @@ mms-checks-spec =
     is-write-requires
     mms-mask-requires
     enum-known-severity
-    ended-requires
+    refused-requires
     enum-known-rate
     mms-rate-requires
     returns
