@@ -12,6 +12,7 @@ use records::name::same_name;
 use records::search::Found;
 
 // At most sixteen publishers, in the order in which they were added. An empty name fits any name of its address.
+#[repr(C)]
 pub struct GoosePublishers {
     pub src_mac: [u64; 16],
     pub go_cb_ref: Names,

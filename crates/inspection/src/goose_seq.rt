@@ -14,6 +14,7 @@ use records::schedule::RetxSchedule;
 use records::search::Found;
 
 // Sixteen streams, each of one address and hash of a control block's name, with its last stored frame's numbers and time.
+#[repr(C)]
 pub struct GooseSeqTable {
     pub src_mac: [u64; 16],
     pub go_cb_ref_hash: [u32; 16],

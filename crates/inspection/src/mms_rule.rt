@@ -7,6 +7,7 @@ use crate::rules::rule_count;
 use records::search::Found;
 
 // At most sixteen rules, in the order in which they were added.
+#[repr(C)]
 pub struct MmsRules {
     pub service_mask: [u16; 16],
     pub read_only: [bool; 16],

@@ -21,6 +21,7 @@ use records::schedule::RetxSchedule;
 use wire::sv::Parsed;
 
 // What the add calls store.
+#[repr(C)]
 pub struct Rules {
     pub mms: MmsRules,
     pub goose: GoosePublishers,
@@ -28,6 +29,7 @@ pub struct Rules {
 }
 
 // How many frames were inspected, and the alerts' counters.
+#[repr(C)]
 pub struct Totals {
     pub mms_total_inspected: u64,
     pub goose_total_inspected: u64,
@@ -36,6 +38,7 @@ pub struct Totals {
 }
 
 // The whole state: what an entry takes and gives back. Of its tables all but the reservations give up their oldest entry.
+#[repr(C)]
 pub struct Iec61850Monitor {
     pub settings: Settings,
     pub rules: Rules,

@@ -12,6 +12,7 @@ use records::search::Found;
 use records::search::find_number;
 
 // Sixteen buckets, each of one invoke id, which is kept as wide as an address so that one search serves both.
+#[repr(C)]
 pub struct RateBuckets {
     pub key: [u64; 16],
     pub tokens: [u16; 16],

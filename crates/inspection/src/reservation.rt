@@ -17,6 +17,7 @@ use records::name::valid_len;
 use records::search::Found;
 
 // Sixteen control blocks, each of one name and kind, its client, and the address that it is bound to.
+#[repr(C)]
 pub struct CbReservations {
     pub cb_ref: Names,
     pub is_goose: [bool; 16],

@@ -5,6 +5,7 @@ ghost use Rattle.inspection.specs.Settings.{newSettings};
 use records::schedule::RetxSchedule;
 
 // What the set calls store. A mask, a gap or a jump of 0 means no limit.
+#[repr(C)]
 pub struct Settings {
     pub strict_mode: bool,
     pub block_test_frames: bool,

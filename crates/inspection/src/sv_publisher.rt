@@ -11,6 +11,7 @@ use records::name::same_name;
 use records::search::Found;
 
 // At most sixteen publishers, in the order in which they were added. A rate of 0 is not compared.
+#[repr(C)]
 pub struct SvPublishers {
     pub src_mac: [u64; 16],
     pub svid: Names,

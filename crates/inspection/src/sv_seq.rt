@@ -17,6 +17,7 @@ use records::name::valid_len;
 use records::search::Found;
 
 // Sixteen streams, each of one svID, with its last count.
+#[repr(C)]
 pub struct SvSeqTable {
     pub svid: Names,
     pub last_smp_cnt: [u16; 16],

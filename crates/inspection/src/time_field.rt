@@ -12,6 +12,7 @@ use records::search::Found;
 use records::search::find_number;
 
 // Sixteen clocks, each of one address, with the pair of its last frame.
+#[repr(C)]
 pub struct TimeTrackers {
     pub src_mac: [u64; 16],
     pub last_t_seconds: [u32; 16],

@@ -5,6 +5,7 @@ ghost use Rattle.records.specs.Ageing.{nextTick, ageAt, exceeds, firstFr
 use crate::search::Found;
 
 // Which of the sixteen slots are in use, the tick of each slot's last use, and the tick of the latest use.
+#[repr(C)]
 pub struct Ageing {
     pub active: [bool; 16],
     pub last_used: [u32; 16],

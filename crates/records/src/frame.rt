@@ -34,6 +34,7 @@ pub struct GooseFrame {
 }
 
 // A decoded sampled-values frame (IEC 61850-9-2). The rate is 0 and the pair of t (0, 0) where the field is absent.
+#[repr(C)]
 pub struct SvFrame {
     pub src_mac: [u8; 6],
     pub svid_len: u8,

@@ -5,6 +5,7 @@ ghost use lib.ListN.{length};
 ghost use Rattle.records.specs.Name.{validLen, padded, sameOctets, sameName, octetsStored, noNames, nameStored};
 
 // Sixteen names: the octets of slot i from 64 × i on, and the lengths.
+#[repr(C)]
 pub struct Names {
     pub octets: [u8; 1024],
     pub lens: [u8; 16],

@@ -18,6 +18,7 @@ pub struct InspectResult {
 }
 
 // The number that the next alert gets, and how many there were.
+#[repr(C)]
 pub struct AlertCounters {
     pub next_alert_id: u64,
     pub total_alerts: u64,

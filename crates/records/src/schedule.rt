@@ -5,6 +5,7 @@ ghost use Prim.Native.Nat.{min};
 ghost use Rattle.records.specs.Schedule.{defaultSchedule, expectedInterval, withinTolerance};
 
 // The schedule by which a GOOSE publisher repeats an unchanged state (IEC 61850-8-1).
+#[repr(C)]
 pub struct RetxSchedule {
     pub initial_us: u32,
     pub t_max_us: u32,
