@@ -1,0 +1,138 @@
+// Answers as structs of numbers: alerts, results, and the monitor beside them.
+ghost use mathlib.Core.Path.{_≡_};
+ghost use Rattle.host.specs.Result.{hostAlert, hostResult, hostConfigured, hostInspected, hostRawInspected};
+use crate::flag::added_error;
+use crate::flag::flag_number;
+use crate::flag::parsed_error;
+use inspection::monitor::Configured;
+use inspection::monitor::Iec61850Monitor;
+use inspection::monitor::Inspected;
+use inspection::monitor::RawInspected;
+use records::alert::CodedAlert;
+use records::result::InspectResult;
+
+// An alert, with its severity, 0 to 4, and its code, 0 to 42, by number.
+#[repr(C)]
+pub struct HostAlert {
+    pub id: u64,
+    pub timestamp_us: u64,
+    pub payload_hash: [u8; 32],
+    pub source_id: u32,
+    pub severity: u8,
+    pub source_type: u8,
+    pub code: u8,
+}
+
+// A verdict, with its flags as numbers, 1 for true.
+#[repr(C)]
+pub struct HostResult {
+    pub allowed: u8,
+    pub alert_count: u8,
+    pub source_type: u8,
+    pub alerts_truncated: u8,
+    pub alerts: [HostAlert; 4],
+}
+
+// The monitor after an add call, and the error's number, 255 where the rule was added.
+#[repr(C)]
+pub struct HostConfigured {
+    pub monitor: Iec61850Monitor,
+    pub error: u8,
+}
+
+// The monitor after an inspection, and the result.
+#[repr(C)]
+pub struct HostInspected {
+    pub monitor: Iec61850Monitor,
+    pub result: HostResult,
+}
+
+// The monitor after a raw SV frame, the result, and the error's number, 255 where the frame was read.
+#[repr(C)]
+pub struct HostRawInspected {
+    pub monitor: Iec61850Monitor,
+    pub result: HostResult,
+    pub error: u8,
+}
+
+// An alert in numbers.
+pub fn host_alert(a: CodedAlert) -> HostAlert
+    ensures { λ r. ⌜ r ≡ hostAlert a ⌝ }
+{
+    let alert = a.alert;
+    let payload_hash = alert.payload_hash;
+    let severity = alert.severity;
+    let code = a.code;
+    HostAlert {
+        id: alert.id,
+        timestamp_us: alert.timestamp_us,
+        payload_hash: payload_hash,
+        source_id: alert.source_id,
+        severity: severity.number(),
+        source_type: alert.source_type,
+        code: code.code(),
+    }
+}
+
+// A result in numbers.
+pub fn host_result(found: InspectResult) -> HostResult
+    ensures { λ r. ⌜ r ≡ hostResult found ⌝ }
+{
+    let first = found.alerts[0];
+    let second = found.alerts[1];
+    let third = found.alerts[2];
+    let fourth = found.alerts[3];
+    let alerts = [
+        host_alert(first),
+        host_alert(second),
+        host_alert(third),
+        host_alert(fourth),
+    ];
+    HostResult {
+        allowed: flag_number(found.allowed),
+        alert_count: found.alert_count,
+        source_type: found.source_type,
+        alerts_truncated: flag_number(found.alerts_truncated),
+        alerts: alerts,
+    }
+}
+
+// The answer of an add call in numbers.
+pub fn host_configured(c: Configured) -> HostConfigured
+    ensures { λ r. ⌜ r ≡ hostConfigured c ⌝ }
+{
+    let monitor = c.monitor;
+    let answer = c.answer;
+    HostConfigured {
+        monitor: monitor,
+        error: added_error(answer),
+    }
+}
+
+// The answer of an inspection in numbers.
+pub fn host_inspected(i: Inspected) -> HostInspected
+    ensures { λ r. ⌜ r ≡ hostInspected i ⌝ }
+{
+    let monitor = i.monitor;
+    let result = i.result;
+    let numbers = host_result(result);
+    HostInspected {
+        monitor: monitor,
+        result: numbers,
+    }
+}
+
+// The answer of a raw frame's inspection in numbers.
+pub fn host_raw_inspected(i: RawInspected) -> HostRawInspected
+    ensures { λ r. ⌜ r ≡ hostRawInspected i ⌝ }
+{
+    let answer = i.answer;
+    let monitor = i.monitor;
+    let result = i.result;
+    let numbers = host_result(result);
+    HostRawInspected {
+        monitor: monitor,
+        result: numbers,
+        error: parsed_error(answer),
+    }
+}
