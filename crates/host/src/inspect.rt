@@ -1,5 +1,7 @@
 // The inspections as C exports: a frame of numbers, or the octets of an SV frame, and a verdict in numbers.
 ghost use mathlib.Core.Path.{_≡_};
+ghost use lib.ListN.{length};
+ghost use Rattle.inspection.specs.Batch.{batchCount, svAfter, svVerdicts};
 ghost use Rattle.inspection.specs.InspectMms.{inspectMms};
 ghost use Rattle.inspection.specs.InspectGoose.{inspectGoose};
 ghost use Rattle.inspection.specs.InspectSv.{inspectSv, inspectRawSv};
@@ -62,4 +64,18 @@ pub extern "C" fn mokyndu_inspect_raw_sv(
 {
     let inspected = monitor.inspect_raw_sv(octets, timestamp_us);
     host_raw_inspected(inspected)
+}
+
+// The monitor after many SV frames, and a verdict for each: the frames as records of 160 octets, which is their C layout, and the
+// verdicts as 8 octets each. Whole records are inspected, as long as there is room for their verdicts.
+#[no_mangle]
+pub extern "C" fn mokyndu_inspect_sv_batch(
+    monitor: Iec61850Monitor,
+    frames: &[u8],
+    verdicts: &mut [u8],
+) -> Iec61850Monitor
+    ensures { λ r. ⌜ r ≡ svAfter monitor (now (frames .entry)) (batchCount (length (now (frames .entry))) (length (now (verdicts .entry)))) ⌝ }
+    ensures { λ _. ⌜ now (verdicts .exit) ≡ svVerdicts monitor (now (frames .entry)) (now (verdicts .entry)) (batchCount (length (now (frames .entry))) (length (now (verdicts .entry)))) ⌝ }
+{
+    monitor.inspect_sv_batch(frames, verdicts)
 }
