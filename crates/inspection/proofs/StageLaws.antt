@@ -21,6 +21,7 @@ use Rattle.records.specs.declared.result.Pushed.{Pushed}
 use Rattle.records.specs.declared.search.Found.{Found}
 use Rattle.records.specs.declared.search.Found.the-variants.{At}
 use Rattle.records.specs.Alert.{sourceSv}
+use Rattle.records.specs.Counter.{saturated}
 use Rattle.records.specs.Hash.{fnv1a}
 use Rattle.records.specs.Name.{validLen, nameOf, padded}
 use Rattle.records.specs.Result.{cleanResult, pushed}
@@ -58,7 +59,7 @@ use Rattle.inspection.specs.GooseSeq.{controlBlock, gooseTimed, retxChec
 use Rattle.inspection.specs.InspectGoose.{goosePair, streamFindings, gooseStream, gooseClock, gooseTimeField, gooseBound, gooseReservation, gooseAllowed, blocked, gooseTest}
 use Rattle.inspection.specs.InspectMms.{domainName, fullFindings, mmsReserved, mmsControl, mmsRated, mmsRate, mmsRule, mmsMask, mmsChecks}
 use Rattle.inspection.specs.InspectSv.{svPair, rateFindings, countFindings, svCount, svClock, svTimeField, svRuleCheck, inspectSv, rawInspected, inspectRawSv, svBound, svReservation, svBinding}
-use Rattle.inspection.specs.Monitor.{withAlerts, withReservations, withRates, withClocks, withGooseStreams, withSvStreams}
+use Rattle.inspection.specs.Monitor.{mmsTotalInspected, gooseTotalInspected, withTotals, countedSv, withAlerts, withReservations, withRates, withClocks, withGooseStreams, withSvStreams}
 use Rattle.inspection.specs.Rate.{rateChecked}
 use Rattle.inspection.specs.Report.{Finding, refusal, notice, clockFindings, ended, permitted, withAllowed, reportedNext, reported, findingsOf, alertsOf}
 use Rattle.inspection.specs.Reservation.{reserved, released, cbChecked, cbKeptChecked}
@@ -368,6 +369,19 @@ module _ (m : Iec61850Monitor) (f : SvFrame) where
         (λ i. ended (withSvStreams (withClocks m (clock .table)) (count .table)) (a i ++ counted i))
         ∙ ap (svCount (withClocks m (clock .table)) f rate (clockFindings (clock .alert))) s
         ∙ ap (svClock m f rate) (t ∙ ap (λ (n : ℕ). timeChecked (m .«time_trackers») (m .settings .«time_max_forward_jump_s») n (svPair f)) e)
+
+-- a frame counted, checked and reported: `after` is the monitor that the checks leave
+pub sv-inspected :
+    (m : Iec61850Monitor) (f : SvFrame) (after : Iec61850Monitor) (findings : List Finding) {total : ℕ} {p : Pushed}
+    → total ≡ saturated (m .totals .«sv_total_inspected»)
+    → ended after findings ≡ svBinding (withTotals m (mmsTotalInspected m) (gooseTotalInspected m) total (m .totals .alerts)) f
+    → p ≡ foldl (reportedNext sourceSv (f .«smp_cnt») (f .«timestamp_us»)) (record { result = cleanResult sourceSv; counters = after .totals .alerts }) findings
+    → record { monitor = withAlerts after (p .counters); result = p .result } ≡ inspectSv m f
+unfolding inspectSv countedSv
+sv-inspected m f after findings t e r =
+    pushed-reported sourceSv (f .«smp_cnt») (f .«timestamp_us») after findings r
+    ∙ ap (reported sourceSv (f .«smp_cnt») (f .«timestamp_us»))
+    (e ∙ ap (λ (n : ℕ). svBinding (withTotals m (mmsTotalInspected m) (gooseTotalInspected m) n (m .totals .alerts)) f) t)
 
 -- ---- a raw SV frame, unreadable or read
 

@@ -14,6 +14,7 @@ pub mod Report
 pub mod InspectMms
 pub mod InspectGoose
 pub mod InspectSv
+pub mod Batch
 pub mod Calls
 pub mod CallTheorems
 pub mod Demand3

@@ -1,0 +1,74 @@
+-- Laws of many SV frames in one call: how far the records reach, and one more frame.
+use Prim.Native.Nat.{ℕ, zero, suc, _+_, _-_, _*_, _≤_, _<_}
+use mathlib.Core.List.{List}
+use mathlib.Core.Path.{_≡_, refl, ap, _∙_}
+use native.Mathlib.Numerals.{add-one}
+use native.Mathlib.Omega.{arith}
+use lib.ListN.{length, take, drop, length-take, length-drop}
+use Rattle.records.specs.declared.frame.SvFrame.{SvFrame}
+use Rattle.records.specs.Name.{octetAt, overwritten}
+use Rattle.records.specs.Verdict.{verdictOf}
+use Rattle.wire.specs.SvRecord.{svFrameOf}
+use Rattle.records.proofs.NameLaws.{length-overwritten}
+use Rattle.inspection.specs.declared.monitor.Iec61850Monitor.{Iec61850Monitor}
+use Rattle.inspection.specs.declared.monitor.Inspected.{Inspected}
+use Rattle.inspection.specs.Batch.{batchCount, frameAt, svAfter, svVerdicts}
+use Rattle.inspection.specs.InspectSv.{inspectSv}
+
+-- the record of a frame that is inspected and its verdict lie within their octets
+module _ (frames verdicts : ℕ) {i n : ℕ} (e : n ≡ batchCount frames verdicts) (h : i < n) where
+  pub record-fits : i * 160 + 160 ≤ frames
+  unfolding batchCount
+  record-fits = omega arith
+
+  pub verdict-fits : i * 8 + 8 ≤ verdicts
+  unfolding batchCount
+  verdict-fits = omega arith
+
+-- past the last frame, all of them are inspected
+pub all-passed : {i n count : ℕ} → i ≤ n → n ≤ i → n ≡ count → i ≡ count
+all-passed a b e = omega arith
+
+-- a record as the code cuts it out
+module _ (frames : List ℕ) (i : ℕ) where
+  abbrev cut : List ℕ
+  cut = take (i * 160 + 160 - i * 160) (drop (i * 160) frames)
+
+  pub cut-length : i * 160 + 160 ≤ length frames → 160 ≤ length cut
+  cut-length h = simp (length-take, length-drop) (omega arith)
+
+  pub cut-frame : {f : SvFrame} → f ≡ svFrameOf cut → f ≡ frameAt frames i
+  cut-frame e =
+      let h : i * 160 + 160 - i * 160 ≡ 160 = omega arith in
+      e ∙ ap (λ (n : ℕ). svFrameOf (take n (drop (i * 160) frames))) h
+
+module _ (m : Iec61850Monitor) (frames : List ℕ) where
+  pub none-after : m ≡ svAfter m frames 0
+  unfolding svAfter
+  none-after = refl
+
+  module _ (octets : List ℕ) where
+    pub no-verdicts : octets ≡ svVerdicts m frames octets 0
+    unfolding svVerdicts
+    no-verdicts = refl
+
+    pub length-verdicts : (n : ℕ) → length (svVerdicts m frames octets n) ≡ length octets
+    unfolding svVerdicts
+    length-verdicts zero = refl
+    length-verdicts (suc n) = length-overwritten (svVerdicts m frames octets n) _ (n * 8) 8 ∙ length-verdicts n
+
+  -- one more frame, inspected on the monitor that the ones before it left
+  module _ (n : ℕ) {before : Iec61850Monitor} {f : SvFrame} {r : Inspected} (a : before ≡ svAfter m frames n) (g : f ≡ frameAt frames n) (e : r ≡ inspectSv before f) where
+    pub after-more : r .monitor ≡ svAfter m frames (n + 1)
+    unfolding svAfter
+    after-more = rw add-one (ap (λ (x : Inspected). x .monitor) e ∙ (λ i. inspectSv (a i) (g i) .monitor))
+
+    pub verdicts-more :
+        (octets : List ℕ) {verdicts verdict : List ℕ} → verdicts ≡ svVerdicts m frames octets n → verdict ≡ verdictOf (r .result)
+        → overwritten verdicts (n * 8) (octetAt verdict) 8 ≡ svVerdicts m frames octets (n + 1)
+    unfolding svVerdicts
+    verdicts-more octets v w =
+        rw add-one
+        ((λ i. overwritten (v i) (n * 8) (octetAt (w i)) 8)
+        ∙ ap (λ (x : Inspected). overwritten (svVerdicts m frames octets n) (n * 8) (octetAt (verdictOf (x .result))) 8)
+        (e ∙ (λ i. inspectSv (a i) (g i))))
