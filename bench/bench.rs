@@ -5,103 +5,12 @@ use std::hint::black_box;
 use std::time::Instant;
 use vs_types_ind::SvFrame;
 
-// The engine's structs as include/mokyndu.h declares them. The monitor's fields are its own.
-#[repr(C)]
-#[derive(Clone, Copy)]
-struct Monitor([u64; 784]);
-
-#[repr(C)]
-#[derive(Clone, Copy)]
-struct Alert {
-    id: u64,
-    timestamp_us: u64,
-    payload_hash: [u8; 32],
-    source_id: u32,
-    severity: u8,
-    source_type: u8,
-    code: u8,
-}
-
-#[repr(C)]
-#[derive(Clone, Copy)]
-struct Verdict {
-    allowed: u8,
-    alert_count: u8,
-    source_type: u8,
-    alerts_truncated: u8,
-    alerts: [Alert; 4],
-}
-
-#[repr(C)]
-struct Inspected {
-    monitor: Monitor,
-    result: Verdict,
-}
-
-#[repr(C)]
-struct RawInspected {
-    monitor: Monitor,
-    result: Verdict,
-    error: u8,
-}
-
-#[repr(C)]
-struct Configured {
-    monitor: Monitor,
-    error: u8,
-}
-
-#[repr(C)]
-#[derive(Clone, Copy)]
-struct Sv {
-    src_mac: [u8; 6],
-    svid_len: u8,
-    svid: [u8; 64],
-    smp_cnt: u16,
-    smp_rate: u16,
-    dataset_ref_len: u8,
-    dataset_ref: [u8; 64],
-    timestamp_us: u64,
-    t_seconds_since_epoch: u32,
-    t_fraction_of_second: u32,
-}
-
-#[repr(C)]
-#[derive(Clone, Copy)]
-struct Goose {
-    src_mac: [u8; 6],
-    go_cb_ref: [u8; 64],
-    go_cb_ref_len: u8,
-    st_num: u32,
-    sq_num: u32,
-    test: u8,
-    timestamp_us: u64,
-    t_seconds_since_epoch: u32,
-    t_fraction_of_second: u32,
-}
-
-#[repr(C)]
-#[derive(Clone, Copy)]
-struct Mms {
-    service_type: u8,
-    raw_service_type: u8,
-    domain: [u8; 64],
-    domain_len: u8,
-    invoke_id: u32,
-    timestamp_us: u64,
-    client_id: u32,
-    control_block_is_goose: u8,
-}
-
-unsafe extern "C" {
-    fn mokyndu_new() -> Monitor;
-    fn mokyndu_add_mms_rule(m: Monitor, mask: u16, read_only: u8, rate: u16) -> Configured;
-    fn mokyndu_inspect_mms(m: Monitor, frame: Mms) -> Inspected;
-    fn mokyndu_inspect_goose(m: Monitor, frame: Goose) -> Inspected;
-    fn mokyndu_inspect_sv(m: Monitor, frame: Sv) -> Inspected;
-    fn mokyndu_inspect_raw_sv(m: Monitor, octets: *const u8, len: usize, time: u64) -> RawInspected;
-    fn mokyndu_inspect_sv_batch(m: Monitor, frames: *const u8, frames_len: usize, verdicts: *mut u8, verdicts_len: usize) -> Monitor;
-}
+#[allow(dead_code)]
+#[path = "../examples/rust/mokyndu.rs"]
+mod mokyndu;
+use mokyndu::{GooseFrame, MmsFrame, NO_ERROR};
+use mokyndu::{mokyndu_add_mms_rule, mokyndu_inspect_goose, mokyndu_inspect_mms, mokyndu_inspect_raw_sv, mokyndu_inspect_sv};
+use mokyndu::{mokyndu_inspect_sv_batch, mokyndu_new};
 
 // What a way of inspecting took, in nanoseconds for each frame of each round, and how many frames it allowed.
 struct Timed {
@@ -154,8 +63,8 @@ fn svid(stream: usize, len: usize) -> [u8; 64] {
 }
 
 fn sv_row(rounds: usize, frames: usize, streams: usize, len: usize) {
-    let ours: Vec<Sv> = (0..frames)
-        .map(|k| Sv {
+    let ours: Vec<mokyndu::SvFrame> = (0..frames)
+        .map(|k| mokyndu::SvFrame {
             src_mac: [2, 0, 0, 0, 0, (k % streams) as u8],
             svid_len: len as u8,
             svid: svid(k % streams, len),
@@ -192,7 +101,7 @@ fn sv_row(rounds: usize, frames: usize, streams: usize, len: usize) {
         &mut || unsafe {
             let m = mokyndu_new();
             let octets = ours.as_ptr().cast();
-            black_box(mokyndu_inspect_sv_batch(m, octets, frames * size_of::<Sv>(), verdicts.as_mut_ptr(), verdicts.len()));
+            black_box(mokyndu_inspect_sv_batch(m, octets, frames * size_of::<mokyndu::SvFrame>(), verdicts.as_mut_ptr(), verdicts.len()));
             verdicts.chunks(8).filter(|v| v[0] == 1).count() as u64
         },
         &mut || unsafe {
@@ -210,8 +119,8 @@ fn sv_row(rounds: usize, frames: usize, streams: usize, len: usize) {
 }
 
 fn goose_row(rounds: usize, frames: usize, streams: usize) {
-    let ours: Vec<Goose> = (0..frames)
-        .map(|k| Goose {
+    let ours: Vec<GooseFrame> = (0..frames)
+        .map(|k| GooseFrame {
             src_mac: [2, 0, 0, 0, 0, (k % streams) as u8],
             go_cb_ref: svid(k % streams, 20),
             go_cb_ref_len: 20,
@@ -264,8 +173,8 @@ fn single_row(name: &str, ways: &[Timed]) {
 }
 
 fn mms_row(rounds: usize, frames: usize) {
-    let ours: Vec<Mms> = (0..frames)
-        .map(|k| Mms {
+    let ours: Vec<MmsFrame> = (0..frames)
+        .map(|k| MmsFrame {
             service_type: 4,
             raw_service_type: 4,
             domain: svid(0, 20),
@@ -345,7 +254,7 @@ fn raw_row(rounds: usize, frames: usize, octets: usize) {
             for (k, octets) in raw.iter().enumerate() {
                 let i = mokyndu_inspect_raw_sv(m, black_box(octets).as_ptr(), octets.len(), k as u64);
                 m = i.monitor;
-                allowed += (i.error == 255 && i.result.allowed == 1) as u64;
+                allowed += (i.error == NO_ERROR && i.result.allowed == 1) as u64;
             }
             allowed
         },

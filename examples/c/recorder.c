@@ -63,6 +63,20 @@ static void raw_sv(const char *what, const uint8_t *octets, size_t len, uint64_t
         printf("%s: error %d\n", what, r.error);
 }
 
+/* Two frames of the next counts and a replay, for one copy of the monitor. */
+static void sv_batch(uint16_t count, uint64_t time) {
+    mokyndu_sv_frame frames[3];
+    uint8_t verdicts[3][MOKYNDU_VERDICT_LEN];
+    for (int k = 0; k < 3; k++) {
+        frames[k] = (mokyndu_sv_frame){.svid_len = 2, .svid = "M1", .smp_cnt = count + k % 2, .smp_rate = 4000, .timestamp_us = time + k};
+        memcpy(frames[k].src_mac, unit, 6);
+    }
+    monitor = mokyndu_inspect_sv_batch(monitor, (const uint8_t *)frames, sizeof frames, verdicts[0], sizeof verdicts);
+    for (int k = 0; k < 3; k++)
+        printf("batch, SV frame %d: %s, alerts %d, first of code %d\n", frames[k].smp_cnt, verdicts[k][0] ? "allowed" : "refused", verdicts[k][1],
+               verdicts[k][2]);
+}
+
 int main(void) {
     uint8_t octets[39] = {1, 12, 205, 4, 0, 1, 2, 0, 0, 0, 0, 1, 0x88, 0xBA, 0x40, 0, 0, 25, 0, 0, 0, 0,
                           0x60, 15, 0x80, 1, 1, 0xA2, 10, 0x30, 8, 0x80, 2, 'M', '1', 0x82, 2, 0, 101};
@@ -82,6 +96,7 @@ int main(void) {
     raw_sv("raw SV frame 101", octets, sizeof octets, 1000750);
     octets[30]++;
     raw_sv("raw SV frame, one octet damaged", octets, sizeof octets, 1001000);
+    sv_batch(102, 1002000);
     goose("GOOSE frame", unit, 0, 0, 2000000);
     goose("GOOSE frame too late", unit, 1, 0, 2007000);
     goose("GOOSE test frame", unit, 2, 1, 2066000);

@@ -1,5 +1,6 @@
 // The exports of libhost.a for Rust; crates/host/include/mokyndu.h says what each call does and what it costs.
-// The monitor is opaque here: only its size and alignment matter to a caller. Every other program may take its fields from the header.
+// A monitor's fields are the engine's own, so that only its size and alignment stand here.
+use std::mem::size_of;
 
 #[repr(C, align(8))]
 #[derive(Clone, Copy)]
@@ -96,8 +97,15 @@ pub struct RawInspected {
     pub error: u8,
 }
 
+const _: () = assert!(size_of::<MmsFrame>() == 88 && size_of::<GooseFrame>() == 104 && size_of::<SvFrame>() == 160);
+const _: () = assert!(size_of::<Verdict>() == 232 && size_of::<Configured>() == 6280);
+const _: () = assert!(size_of::<Inspected>() == 6504 && size_of::<RawInspected>() == 6512);
+
 // In the place of an error's number: added, or read.
 pub const NO_ERROR: u8 = 255;
+
+// The octets of a verdict of a batch.
+pub const VERDICT_LEN: usize = 8;
 
 extern "C" {
     pub fn mokyndu_new() -> Monitor;
@@ -116,6 +124,9 @@ extern "C" {
     pub fn mokyndu_inspect_goose(monitor: Monitor, frame: GooseFrame) -> Inspected;
     pub fn mokyndu_inspect_sv(monitor: Monitor, frame: SvFrame) -> Inspected;
     pub fn mokyndu_inspect_raw_sv(monitor: Monitor, octets: *const u8, len: usize, timestamp_us: u64) -> RawInspected;
+    pub fn mokyndu_inspect_sv_batch(
+        monitor: Monitor, frames: *const u8, frames_len: usize, verdicts: *mut u8, verdicts_len: usize,
+    ) -> Monitor;
     pub fn mokyndu_mms_total_inspected(monitor: Monitor) -> u64;
     pub fn mokyndu_goose_total_inspected(monitor: Monitor) -> u64;
     pub fn mokyndu_sv_total_inspected(monitor: Monitor) -> u64;

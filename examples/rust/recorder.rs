@@ -1,8 +1,9 @@
 // A small recorder: sets a monitor up, hands it frames and prints the verdicts. examples/c/recorder.c prints the same lines.
-// examples/run builds and runs both. Every call is safe: what is owed is that slices are valid and flags of the monitor its own.
+// examples/run builds and runs both. Each `unsafe` call gets a monitor that a call returned, and a slice's own pointer and length.
 #[allow(dead_code)]
 mod mokyndu;
 use mokyndu::*;
+use std::mem::size_of_val;
 
 const SEVERITIES: [&str; 5] = ["info", "low", "medium", "high", "critical"];
 const UNIT: [u8; 6] = [2, 0, 0, 0, 0, 1];
@@ -16,6 +17,13 @@ fn name(octets: &[u8]) -> [u8; 64] {
     let mut out = [0; 64];
     out[..octets.len()].copy_from_slice(octets);
     out
+}
+
+fn sv_frame(src_mac: [u8; 6], smp_cnt: u16, timestamp_us: u64) -> SvFrame {
+    SvFrame {
+        src_mac, svid_len: 2, svid: name(b"M1"), smp_cnt, smp_rate: 4000, dataset_ref_len: 0, dataset_ref: [0; 64],
+        timestamp_us, t_seconds_since_epoch: 0, t_fraction_of_second: 0,
+    }
 }
 
 impl Recorder {
@@ -38,12 +46,20 @@ impl Recorder {
     }
 
     fn sv(&mut self, what: &str, src_mac: [u8; 6], smp_cnt: u16, timestamp_us: u64) {
-        let frame = SvFrame {
-            src_mac, svid_len: 2, svid: name(b"M1"), smp_cnt, smp_rate: 4000, dataset_ref_len: 0, dataset_ref: [0; 64],
-            timestamp_us, t_seconds_since_epoch: 0, t_fraction_of_second: 0,
-        };
-        let answer = unsafe { mokyndu_inspect_sv(self.0, frame) };
+        let answer = unsafe { mokyndu_inspect_sv(self.0, sv_frame(src_mac, smp_cnt, timestamp_us)) };
         self.verdict(what, answer);
+    }
+
+    // Two frames of the next counts and a replay, for one copy of the monitor.
+    fn sv_batch(&mut self, smp_cnt: u16, timestamp_us: u64) {
+        let frames = [0, 1, 2].map(|k| sv_frame(UNIT, smp_cnt + k % 2, timestamp_us + u64::from(k)));
+        let mut verdicts = [[0; VERDICT_LEN]; 3];
+        let (from, to) = (frames.as_ptr().cast(), verdicts.as_mut_ptr().cast());
+        self.0 = unsafe { mokyndu_inspect_sv_batch(self.0, from, size_of_val(&frames), to, size_of_val(&verdicts)) };
+        for (f, v) in frames.iter().zip(verdicts) {
+            let said = if v[0] != 0 { "allowed" } else { "refused" };
+            println!("batch, SV frame {}: {said}, alerts {}, first of code {}", f.smp_cnt, v[1], v[2]);
+        }
     }
 
     fn goose(&mut self, what: &str, src_mac: [u8; 6], sq_num: u32, test: u8, timestamp_us: u64) {
@@ -104,6 +120,7 @@ fn main() {
     r.raw_sv("raw SV frame 101", &octets, 1000750);
     octets[30] += 1;
     r.raw_sv("raw SV frame, one octet damaged", &octets, 1001000);
+    r.sv_batch(102, 1002000);
     r.goose("GOOSE frame", UNIT, 0, 0, 2000000);
     r.goose("GOOSE frame too late", UNIT, 1, 0, 2007000);
     r.goose("GOOSE test frame", UNIT, 2, 1, 2066000);

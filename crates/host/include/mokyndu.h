@@ -369,6 +369,19 @@ mokyndu_inspected mokyndu_inspect_sv(mokyndu_monitor monitor, mokyndu_sv_frame f
 /* An SV frame as it was on the wire, from the destination address on, and the time at which it was seen. */
 mokyndu_raw_inspected mokyndu_inspect_raw_sv(mokyndu_monitor monitor, const uint8_t *octets, size_t len, uint64_t timestamp_us);
 
+/* ---- many SV frames in one call: the monitor in and out once, 6272 octets each way */
+
+/* A batch writes eight octets for each frame: allowed, the number of alerts (at most three), then the code and the severity of each
+   alert, 0 and 0 where there is none. The alerts' numbers run on from frame to frame; their time and source number are the frame's
+   time and count. */
+#define MOKYNDU_VERDICT_LEN 8
+
+/* The monitor after the frames, an array of mokyndu_sv_frame handed over as octets (frames_len: its size in octets), with their verdicts
+   in their order. Whole frames are inspected, as long as there is room for their verdicts: the lesser of frames_len / 160 and
+   verdicts_len / 8. */
+mokyndu_monitor mokyndu_inspect_sv_batch(mokyndu_monitor monitor, const uint8_t *frames, size_t frames_len, uint8_t *verdicts,
+                                         size_t verdicts_len);
+
 /* ---- the readers: in 6272 octets each */
 
 /* How many frames of a kind were inspected, and how many alerts there were. */
