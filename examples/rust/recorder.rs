@@ -53,7 +53,7 @@ impl Recorder {
     // Two frames of the next counts and a replay, for one copy of the monitor.
     fn sv_batch(&mut self, smp_cnt: u16, timestamp_us: u64) {
         let frames = [0, 1, 2].map(|k| sv_frame(UNIT, smp_cnt + k % 2, timestamp_us + u64::from(k)));
-        let mut verdicts = [[0; VERDICT_LEN]; 3];
+        let mut verdicts = [[0u8; VERDICT_LEN]; 3];
         let (from, to) = (frames.as_ptr().cast(), verdicts.as_mut_ptr().cast());
         self.0 = unsafe { mokyndu_inspect_sv_batch(self.0, from, size_of_val(&frames), to, size_of_val(&verdicts)) };
         for (f, v) in frames.iter().zip(verdicts) {
