@@ -48,7 +48,10 @@ returns c =
     let h1 = h2 .before in
     let start = h1 .before .before .before .before .before in
     let r = start .args .t1 in
-    let alerts = four-slots hostAlert (r .alerts) (size start) _ _ _ _ (h1 .host-alert .ensures) (h2 .host-alert2 .ensures) (h3 .host-alert3 .ensures) (h4 .host-alert4 .ensures) in
+    let alerts =
+    four-slots hostAlert (r .alerts) (size start) _ _ _ _
+    (h1 .host-alert .ensures) (h2 .host-alert2 .ensures) (h3 .host-alert3 .ensures) (h4 .host-alert4 .ensures)
+    in
     λ i. record {
       allowed = c .before .flag-number .ensures i;
       «alert_count» = r .«alert_count»;
@@ -58,4 +61,17 @@ returns c =
     }
 
 pub host-result-spec : {M : Type 1} → statement M
-host-result-spec = tie.close (tie.spec element-copy-out-first element-copy-out-second element-copy-out-third element-copy-out-fourth host-alert-requires host-alert-requires-2 host-alert-requires-3 host-alert-requires-4 flag-number-requires flag-number-requires-2 returns)
+host-result-spec =
+    tie.close
+    (tie.spec
+    element-copy-out-first
+    element-copy-out-second
+    element-copy-out-third
+    element-copy-out-fourth
+    host-alert-requires
+    host-alert-requires-2
+    host-alert-requires-3
+    host-alert-requires-4
+    flag-number-requires
+    flag-number-requires-2
+    returns)
