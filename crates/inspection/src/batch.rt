@@ -1,11 +1,16 @@
 // Many SV frames in one call, for hosts: the monitor is copied once, and the frames are inspected one after the other in columns of
 // its own. Each frame is a record of 160 octets (wire::sv_record), each verdict one of 8 (records::verdict).
-ghost use Prim.Native.Nat.{_+_, _*_, _≤_};
+ghost use mathlib.Core.Bool.{_&&_};
+ghost use mathlib.Core.List.{foldl};
 ghost use mathlib.Core.Path.{_≡_};
 ghost use lib.ListN.{length};
-ghost use Rattle.inspection.specs.Batch.{batchCount, svAfter, svVerdicts};
+ghost use Rattle.records.specs.Result.{cleanResult};
+ghost use Rattle.inspection.specs.Batch.{isNothing, notedOf, batchCount, svAfter, svVerdicts};
+ghost use Rattle.inspection.specs.Report.{reportedNext, alertsOf};
 use crate::inspect_sv::sv_binding;
 use crate::monitor::Iec61850Monitor;
+use crate::report::CheckAlert;
+use crate::report::CheckAlerts;
 use crate::report::push_alerts;
 use crate::sv_seq::SvSeqTable;
 use crate::time_field::TimeTrackers;
@@ -13,6 +18,7 @@ use records::ageing::Ageing;
 use records::alert::SOURCE_IEC61850_SV;
 use records::counter::saturating_increment;
 use records::name::Names;
+use records::result::AlertCounters;
 use records::verdict::put_verdict;
 use records::verdict::verdict_of;
 use wire::number::least;
@@ -23,6 +29,63 @@ fn batch_count(frames_len: usize, verdicts_len: usize) -> usize
     ensures { λ r. ⌜ r ≡ batchCount «frames_len» «verdicts_len» ⌝ }
 {
     least(frames_len / 160, verdicts_len / 8)
+}
+
+// The verdict on a frame, and the counters after its alerts.
+pub struct Noted {
+    pub verdict: [u8; 8],
+    pub counters: AlertCounters,
+}
+
+// Whether a check found nothing.
+fn is_nothing(alert: CheckAlert) -> bool
+    ensures { λ r. ⌜ r ≡ isNothing alert ⌝ }
+{
+    match alert {
+        CheckAlert::Nothing => true,
+        CheckAlert::Refusal(_, _) => false,
+        CheckAlert::Notice(_, _) => false,
+    }
+}
+
+// Whether the checks found nothing.
+fn none_found(alerts: CheckAlerts) -> bool
+    ensures { λ r. ⌜ r ≡ (isNothing (alerts .first) && (isNothing (alerts .second) && isNothing (alerts .third))) ⌝ }
+{
+    let first = alerts.first;
+    let second = alerts.second;
+    let third = alerts.third;
+    if is_nothing(first) {
+        if is_nothing(second) {
+            return is_nothing(third);
+        }
+    }
+    false
+}
+
+// The verdict that reports what the checks found. Without an alert no result is made.
+fn verdict_on(
+    counters: AlertCounters,
+    alerts: CheckAlerts,
+    source_type: u8,
+    source_id: u32,
+    ts_us: u64,
+) -> Noted
+    ensures { λ r. ⌜ r ≡ notedOf (foldl (reportedNext «source_type» «source_id» «ts_us») (record { result = cleanResult «source_type»; counters = counters }) (alertsOf alerts)) ⌝ }
+{
+    if none_found(alerts) {
+        return Noted {
+            verdict: [1, 0, 0, 0, 0, 0, 0, 0],
+            counters: counters,
+        };
+    }
+    let pushed = push_alerts(counters, alerts, source_type, source_id, ts_us);
+    let result = pushed.result;
+    let counted = pushed.counters;
+    Noted {
+        verdict: verdict_of(result),
+        counters: counted,
+    }
 }
 
 impl Iec61850Monitor {
@@ -81,16 +144,15 @@ impl Iec61850Monitor {
                 &mut used,
                 &mut tick,
             );
-            let pushed = push_alerts(
+            let noted = verdict_on(
                 counters,
                 alerts,
                 SOURCE_IEC61850_SV,
                 frame.smp_cnt as u32,
                 frame.timestamp_us,
             );
-            counters = pushed.counters;
-            let result = pushed.result;
-            let verdict = verdict_of(result);
+            counters = noted.counters;
+            let verdict = noted.verdict;
             put_verdict(verdicts, i * 8, verdict);
             total = saturating_increment(total);
             i += 1;

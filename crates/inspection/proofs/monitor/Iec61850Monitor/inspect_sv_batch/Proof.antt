@@ -3,7 +3,7 @@
 use Prim.Native.Nat.{ℕ, _+_, _*_, _≤_, _<_, _-_}
 use mathlib.Core.Bool.{Bool}
 use mathlib.Core.List.{List}
-use mathlib.Core.Path.{_≡_, refl, ap, _∙_}
+use mathlib.Core.Path.{_≡_, ap, _∙_}
 use native.Mathlib.Omega.{arith}
 use borrow.Author.Needs.{needs}
 use lib.ListN.{length}
@@ -16,11 +16,8 @@ use Rattle.inspection.specs.Reservation.{cbTableOf}
 use Rattle.inspection.specs.SvSeq.{svTableOf}
 use Rattle.inspection.specs.TimeField.{clockTableOf}
 use Rattle.inspection.proofs.BatchLaws.{record-fits, verdict-fits, all-passed, cut-length, cut-frame, none-after, no-verdicts, length-verdicts, after-more, verdicts-more}
-use Rattle.inspection.proofs.StageLaws.{sv-inspected}
 use Rattle.inspection.proofs.monitor.Iec61850Monitor.inspect_sv_batch.Statement.{statement}
 use Rattle.inspection.proofs.monitor.Iec61850Monitor.inspect_sv_batch.Tie as tie
-use Rattle.inspection.proofs.monitor.Iec61850Monitor.inspect_sv_batch.Reads as reads
-use Rattle.inspection.proofs.monitor.Iec61850Monitor.inspect_sv_batch.Lts as lts
 
 -- the monitor with these columns and counters
 abbrev whole :
@@ -83,7 +80,7 @@ verdict-within c =
 
 -- the beginning of the loop's body, from its end
 abbrev body : tie.After-saturating-increment Inv-loop μ-loop → tie.In-loop Inv-loop μ-loop
-body c = c .before .before .before .before .before .before .before .before .before .before .before .before .before .before .before .before .before .before .before .before .before .before .before .before .before .before .before .before .before .before .before .before .before .before .before
+body c = c .before .before .before .before .before .before .before .before .before .before .before .before .before .before .before .before .before .before .before .before .before .before .before .before .before .before .before .before .before .before .before .before .before .before
 
 batch-count-requires : tie.Need-batch-count-requires Inv-loop μ-loop
 batch-count-requires c κs = search needs
@@ -117,20 +114,17 @@ sv-frame-of-requires c κs = cut-length (octets (c .before .before)) (c .before 
 sv-binding-requires : tie.Need-sv-binding-requires Inv-loop μ-loop
 sv-binding-requires c κs = search needs
 
-cast-push-alerts : tie.Need-cast-push-alerts Inv-loop μ-loop
-cast-push-alerts c = search needs
+cast-verdict-on : tie.Need-cast-verdict-on Inv-loop μ-loop
+cast-verdict-on c = search needs
 
-push-alerts-requires : tie.Need-push-alerts-requires Inv-loop μ-loop
-push-alerts-requires c κs = search needs
-
-verdict-of-requires : tie.Need-verdict-of-requires Inv-loop μ-loop
-verdict-of-requires c κs = search needs
+verdict-on-requires : tie.Need-verdict-on-requires Inv-loop μ-loop
+verdict-on-requires c κs = search needs
 
 mul-put-verdict : tie.Need-mul-put-verdict Inv-loop μ-loop
-mul-put-verdict c = omega (arith, record-ends (c .before .before .before .before .before .before .before .before .before .before .before .before .before .before .before .before .before .before .before .before .before .before .before .before .before .before .before .before .before .before .before))
+mul-put-verdict c = omega (arith, record-ends (c .before .before .before .before .before .before .before .before .before .before .before .before .before .before .before .before .before .before .before .before .before .before .before .before .before .before .before .before .before .before))
 
 put-verdict-requires : tie.Need-put-verdict-requires Inv-loop μ-loop
-put-verdict-requires c κs = verdict-within (c .before .before .before .before .before .before .before .before .before .before .before .before .before .before .before .before .before .before .before .before .before .before .before .before .before .before .before .before .before .before .before)
+put-verdict-requires c κs = verdict-within (c .before .before .before .before .before .before .before .before .before .before .before .before .before .before .before .before .before .before .before .before .before .before .before .before .before .before .before .before .before .before)
 
 saturating-increment-requires : tie.Need-saturating-increment-requires Inv-loop μ-loop
 saturating-increment-requires c κs = search needs
@@ -150,18 +144,15 @@ loop-again c =
     let l = body c .before .loop in
     let m = monitor (body c .before) in
     let frames = octets (body c .before) in
-    let f = c .before .before .before .before .before .before .before .before .before .before .before .before .before .before .before .before .before .before .before .before .before .before .before .before .before .before .before .before .before .before .before .before .before in
+    let f = c .before .before .before .before .before .before .before .before .before .before .before .before .before .before .before .before .before .before .before .before .before .before .before .before .before .before .before .before .before .before .before .before in
     let total = c .saturating-increment in
-    let p = c .before .before .before .before .before .before .before .before .push-alerts in
-    let before = whole m (l .cb-bound) (l .cb-macs) (l .clock-macs) (l .clock-seconds) (l .clock-fractions) (l .clock-active) (l .clock-used) (l .clock-tick) (l .svids) (l .svid-lens) (l .counts) (l .active) (l .used) (l .tick) (l .total) (l .counters) in
-    let e =
-    sv-inspected before (f .sv-frame-of .result) _ _ (total .ensures)
-    (c .before .before .before .before .before .before .before .before .before .before .sv-binding .ensures (withTotals m (mmsTotalInspected m) (gooseTotalInspected m) (total .result) (l .counters)))
-    (p .ensures) in (
+    let e = c .before .before .before .before .before .before .before .before .before .sv-binding .ensures (withTotals m (mmsTotalInspected m) (gooseTotalInspected m) (total .result) (l .counters)) in
+    let r = c .before .before .before .before .before .before .before .verdict-on .ensures in
+    let before = whole m (l .cb-bound) (l .cb-macs) (l .clock-macs) (l .clock-seconds) (l .clock-fractions) (l .clock-active) (l .clock-used) (l .clock-tick) (l .svids) (l .svid-lens) (l .counts) (l .active) (l .used) (l .tick) (l .total) (l .counters) in (
       omega (arith, below (body c)),
-      after-more m frames (l .i) (l .inv .1) (frame-read f) e,
+      after-more m frames (l .i) {before = before} _ _ (l .inv .1) (frame-read f) (total .ensures) e r,
       c .before .before .before .put-verdict .ensures
-          ∙ verdicts-more m frames (l .i) (l .inv .1) (frame-read f) e (room (body c .before)) (l .inv .2) (c .before .before .before .before .before .verdict-of .ensures),
+          ∙ verdicts-more m frames (l .i) {before = before} _ _ (l .inv .1) (frame-read f) (total .ensures) e r (room (body c .before)) (l .inv .2),
     )
 
 same-length : tie.Need-same-length Inv-loop μ-loop
@@ -189,9 +180,8 @@ inspect-sv-batch-spec =
     part-sv-frame-of-end
     sv-frame-of-requires
     sv-binding-requires
-    cast-push-alerts
-    push-alerts-requires
-    verdict-of-requires
+    cast-verdict-on
+    verdict-on-requires
     mul-put-verdict
     put-verdict-requires
     saturating-increment-requires
