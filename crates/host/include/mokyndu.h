@@ -235,10 +235,12 @@ typedef struct {
 } mokyndu_monitor; /* 6272 */
 
 /* ---- frames. A name is 64 octets and a stated length; above 64 the length counts as 64. Times are microseconds of the recorder's
-   clock. The pair t is the frame's own time, seconds and fraction, (0, 0) where the frame has none. */
+   clock. The pair t is the frame's own time, (0, 0) where the frame has none: seconds, and the fraction as the three octets of the field
+   as a number, in units of 2^-24 s, which is how inspect_raw_sv reads it. */
 
-/* A decoded MMS request. The service is taken by its number; the masks go by the raw number. In SELECT_CONTROL and CANCEL_CONTROL
-   the domain names the control block. */
+/* A decoded MMS request. The service is taken by its number; the masks go by the raw number. In SELECT_CONTROL,
+   CANCEL_CONTROL and CONCLUDE the domain and control_block_is_goose name the control block; CANCEL_CONTROL and CONCLUDE with an empty
+   domain release all of the client's. */
 typedef struct {
     uint8_t service_type;
     uint8_t raw_service_type;
@@ -263,7 +265,8 @@ typedef struct {
     uint32_t t_fraction_of_second;
 } mokyndu_goose_frame; /* 104 */
 
-/* A decoded sampled-values frame. The rate is 0 where the frame has none. */
+/* A decoded sampled-values frame. The rate is 0 where the frame has none. smp_cnt has to count through to 65535: a stream whose count
+   begins at 0 again each second is refused as a replay from its second second on (docs/DIFFERENCES.md). */
 typedef struct {
     uint8_t src_mac[6];
     uint8_t svid_len;
@@ -290,7 +293,8 @@ typedef struct {
     uint8_t code;
 } mokyndu_alert; /* 56 */
 
-/* The verdict on a frame. Slots 0 to alert_count - 1 hold alerts, the others an empty one. */
+/* The verdict on a frame. Slots 0 to alert_count - 1 hold alerts, the others an empty one. No inspection has more than three alerts, so
+   alerts_truncated is always 0. A refused frame changes the monitor too: keep the monitor that was returned, always. */
 typedef struct {
     uint8_t allowed;
     uint8_t alert_count;
@@ -299,7 +303,7 @@ typedef struct {
     mokyndu_alert alerts[4];
 } mokyndu_result; /* 232 */
 
-/* The monitor after an add call, and the error's number; a refused call leaves the monitor as it was. */
+/* The monitor after an add call, and the error's number; an add call that answers an error leaves the monitor as it was. */
 typedef struct {
     mokyndu_monitor monitor;
     uint8_t error;
@@ -326,12 +330,14 @@ typedef struct {
 mokyndu_monitor mokyndu_new(void);
 mokyndu_monitor mokyndu_new_strict(void);
 
-/* As new but for what the set calls stored: rules, tables, reservations and totals are gone. In and out 6272 octets. */
+/* As new but for the settings, which are strict mode and what the set calls stored. Rules, tables, reservations and totals are gone, and
+   alert numbers begin at 1 again. In and out 6272 octets. */
 mokyndu_monitor mokyndu_reset(mokyndu_monitor monitor);
 
 /* ---- the set calls: in and out 6272 octets each */
 
-/* Bit n of the mask allows the MMS service of raw number n; 0 filters none. */
+/* Bit n of the mask allows the MMS service of raw number n; 0 filters none. Any other mask, 0xFFFF too, refuses raw numbers of 16 and
+   above. */
 mokyndu_monitor mokyndu_set_mms_service_mask(mokyndu_monitor monitor, uint16_t mask);
 
 /* Whether all MMS writes are refused. */
@@ -343,21 +349,26 @@ mokyndu_monitor mokyndu_set_block_test_frames(mokyndu_monitor monitor, uint8_t b
 /* The largest gap of smpCnt that is accepted; 0 accepts any. */
 mokyndu_monitor mokyndu_set_sv_max_smp_cnt_gap(mokyndu_monitor monitor, uint16_t gap);
 
-/* The schedule of GOOSE retransmissions, and whether it is enforced. A new monitor has 4000 us, 1000000 us and 25 percent. */
+/* The schedule of GOOSE retransmissions, and whether it is checked: an interval outside tolerance gets an alert of MEDIUM and does not
+   refuse the frame. A new monitor has 4000 us, 1000000 us and 25 percent, and does not check. */
 mokyndu_monitor mokyndu_set_retx_schedule(mokyndu_monitor monitor, mokyndu_retx_schedule schedule, uint8_t enforce);
 
-/* How many seconds a clock may go ahead from one frame to the next; 0 for any. Going back always alerts. */
+/* How many seconds the clock of an address may go ahead between two of its frames, GOOSE or SV; 0 for any. More, or going back, refuses
+   the frame. */
 mokyndu_monitor mokyndu_set_time_max_forward_jump_s(mokyndu_monitor monitor, uint32_t seconds);
 
 /* ---- the add calls: in 6272 octets, out 6280; sixteen rules of each kind */
 
-/* An MMS rule: the raw numbers that it applies to (0xFFFF for all), whether it refuses writes, and requests per second, 0 for any. */
+/* An MMS rule: a mask of raw numbers (bit n for n; 0xFFFF for all, also 16 and above), whether it refuses writes, and how many requests
+   of one invoke_id a second it lets through, 0 for any. The first rule that applies decides. */
 mokyndu_configured mokyndu_add_mms_rule(mokyndu_monitor monitor, uint16_t service_mask, uint8_t read_only, uint16_t max_rate_per_sec);
 
-/* A GOOSE publisher: an address of six octets and a control block's name; an empty name fits any of the address. */
+/* A GOOSE publisher: an address of six octets and a control block's name; an empty name fits any of the address. Once there is a
+   publisher, a GOOSE frame that fits none is refused, strict or not. */
 mokyndu_configured mokyndu_add_goose_publisher(mokyndu_monitor monitor, const uint8_t src_mac[6], const uint8_t *go_cb_ref, size_t go_cb_ref_len);
 
-/* An SV publisher: an address of six octets, the svID that is bound to it, and its sample rate, 0 for any. */
+/* An SV publisher: an address of six octets, the svID that is bound to it, and its sample rate, 0 for any. A frame of this
+   svID from an address that no publisher gives it is refused. */
 mokyndu_configured mokyndu_add_sv_publisher(mokyndu_monitor monitor, const uint8_t src_mac[6], const uint8_t *svid, size_t svid_len, uint16_t expected_smp_rate);
 
 /* ---- the inspections: in 6272 octets and the frame, out 6504, or 6512 of a raw frame */
@@ -372,13 +383,14 @@ mokyndu_raw_inspected mokyndu_inspect_raw_sv(mokyndu_monitor monitor, const uint
 /* ---- many SV frames in one call: the monitor in and out once, 6272 octets each way */
 
 /* A batch writes eight octets for each frame: allowed, the number of alerts (at most three), then the code and the severity of each
-   alert, 0 and 0 where there is none. The alerts' numbers run on from frame to frame; their time and source number are the frame's
-   time and count. */
+   alert, 0 and 0 where there is none. The first alert of a batch has the number mokyndu_total_alerts of the monitor handed in, plus 1,
+   and the numbers run on from frame to frame; an alert's time and source number are its frame's time and count. */
 #define MOKYNDU_VERDICT_LEN 8
 
 /* The monitor after the frames, an array of mokyndu_sv_frame handed over as octets (frames_len: its size in octets), with their verdicts
    in their order. Whole frames are inspected, as long as there is room for their verdicts: the lesser of frames_len / 160 and
-   verdicts_len / 8. */
+   verdicts_len / 8, which is not returned. Octets of verdicts behind the last verdict stay as they were. verdicts must not overlap
+   frames; neither needs an alignment. */
 mokyndu_monitor mokyndu_inspect_sv_batch(mokyndu_monitor monitor, const uint8_t *frames, size_t frames_len, uint8_t *verdicts,
                                          size_t verdicts_len);
 
