@@ -154,7 +154,8 @@ pub fn same_name<'a>(
     same_octets(octets, slot, name)
 }
 
-// Stores 64 octets in a slot; a slot of 16 or more changes nothing.
+// Stores 64 octets in a slot; a slot of 16 or more changes nothing. From a copy, which cannot overlap the slot: sixteen octets are
+// stored at once.
 pub fn store_octets(octets: &mut [u8; 1024], slot: usize, name: &[u8; 64])
     ensures { λ _. ⌜ now (octets .exit) ≡ octetsStored (now (octets .entry)) slot (now (name .entry)) ⌝ }
 {
@@ -162,9 +163,10 @@ pub fn store_octets(octets: &mut [u8; 1024], slot: usize, name: &[u8; 64])
         return;
     }
     let start = slot * 64;
+    let copy = *name;
     let mut i: usize = 0;
     while i < 64 {
-        octets[start + i] = name[i];
+        octets[start + i] = copy[i];
         i += 1;
     }
 }

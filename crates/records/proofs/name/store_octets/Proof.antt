@@ -10,11 +10,11 @@ use Rattle.records.proofs.name.store_octets.Statement.{statement}
 use Rattle.records.proofs.name.store_octets.Tie as tie
 
 abbrev Inv-loop : tie.InvT-loop
-Inv-loop octets₀ slot name start i₀ octets i =
+Inv-loop octets₀ slot name start copy i₀ octets i =
     (i ≤ 64) × (octets ≡ overwritten octets₀ start (octetAt name) i)
 
 abbrev μ-loop : tie.MeasureT-loop
-μ-loop octets₀ slot name start i₀ octets i = 64 - i
+μ-loop octets₀ slot name start copy i₀ octets i = 64 - i
 
 returns : tie.Need-returns Inv-loop μ-loop
 unfolding octetsStored
@@ -27,8 +27,8 @@ loop-holds : tie.Need-loop-holds Inv-loop μ-loop
 unfolding overwritten
 loop-holds c = (omega arith, refl)
 
-element-copy-out-octets : tie.Need-element-copy-out-octets Inv-loop μ-loop
-element-copy-out-octets c = omega arith
+array-read-octets : tie.Need-array-read-octets Inv-loop μ-loop
+array-read-octets c = omega arith
 
 add-octets : tie.Need-add-octets Inv-loop μ-loop
 add-octets c = omega arith
@@ -44,7 +44,7 @@ loop-less c = omega arith
 
 loop-again : tie.Need-loop-again Inv-loop μ-loop
 loop-again c =
-    let l = c .before .before .loop in
+    let l = c .before .loop in
     let a = c .before .before .before .before .args in
     (omega arith, overwritten-more _ (octetAt (a .name .now)) (a .slot * 64) (l .i) (l .inv .1) refl refl)
 
@@ -53,7 +53,7 @@ unfolding octetsStored
 returns-2 c =
     let l = c .before .loop in
     let e : l .i ≡ 64 = omega arith in
-    (rw e at (l .inv .1)) ∙ sym (cond-yes _ _ (lt-ltb _ _ (c .before .before .if1 .left)))
+    (rw e at (l .inv .1)) ∙ sym (cond-yes _ _ (lt-ltb _ _ (c .before .before .before .if1 .left)))
 
 pub store-octets-spec : {M : Type 1} → statement M
 store-octets-spec =
@@ -64,7 +64,7 @@ store-octets-spec =
     returns
     mul-start
     loop-holds
-    element-copy-out-octets
+    array-read-octets
     add-octets
     element-write-octets
     add-i
