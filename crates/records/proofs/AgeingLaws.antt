@@ -4,12 +4,27 @@ use mathlib.Core.Bool.{Bool, true, false, cond}
 use mathlib.Core.Logic.{by-cases}
 use Prim.Native.Nat.{ℕ, zero, suc, _+_, _≤_, _<_, _-_}
 use native.Mathlib.Decide.{ℕ-discrete}
+use native.Mathlib.Nat.{add-zero}
 use native.Mathlib.Numerals.{add-one}
 use native.Mathlib.Omega.{arith}
-use borrow.Author.Tests.{ltb-true, ltb-false, leb-true, leb-false}
+use borrow.Author.Tests.{lt-ltb, le-ltb, ltb-true, ltb-false, leb-true, leb-false}
+use lib.Dec.{ltb, leb}
 use Rattle.records.specs.declared.ageing.EqualAges.{EqualAges}
 use Rattle.records.specs.declared.ageing.EqualAges.the-variants.{First, Last}
-use Rattle.records.specs.Ageing.{exceeds, oldestOf}
+use Rattle.records.specs.Ageing.{exceeds, oldestOf, margin}
+
+-- one strict comparison decides under either rule
+pub exceeds-margin : (rule : EqualAges) (earlier later : ℕ) → exceeds rule earlier later ≡ ltb earlier (later + margin rule)
+exceeds-margin First earlier later = rw add-zero
+exceeds-margin Last earlier later = go (leb earlier later) refl
+  where
+    go : (t : Bool) → leb earlier later ≡ t → leb earlier later ≡ ltb earlier (later + 1)
+    go true e = e ∙ sym (lt-ltb earlier (later + 1) (omega (arith, leb-true earlier later e)))
+    go false e = e ∙ sym (le-ltb earlier (later + 1) (omega (arith, leb-false earlier later e)))
+
+pub margin-fits : (rule : EqualAges) → margin rule ≤ 1
+margin-fits First = omega arith
+margin-fits Last = omega arith
 
 module _ (rule : EqualAges) (age : ℕ → ℕ) where
   -- the slot is the oldest of the first i, and g is its age

@@ -62,3 +62,8 @@ usedAt a slot =
       tick = nextTick (a .tick);
     })
     a
+
+-- for the code: what a later age is raised by, so that `<` decides as `exceeds` does (AgeingLaws, exceeds-margin)
+abbrev pub margin : EqualAges → ℕ
+margin First = 0
+margin Last = 1

@@ -1,7 +1,7 @@
 // Ageing, carried over from industrial/iec61850-monitor/src/lib.rs of craton-shield a31d888527 (Apache-2.0) and changed:
 // one component for the four tables that give up their oldest entry.
 ghost use mathlib.Core.Path.{_≡_};
-ghost use Rattle.records.specs.Ageing.{nextTick, ageAt, exceeds, firstFree, oldest, slotFor, noUse, usedAt};
+ghost use Rattle.records.specs.Ageing.{nextTick, ageAt, margin, firstFree, oldest, slotFor, noUse, usedAt};
 use crate::search::Found;
 
 // Which of the sixteen slots are in use, the tick of each slot's last use, and the tick of the latest use.
@@ -33,13 +33,13 @@ pub fn age(tick: u32, last_used: u32) -> u32
 }
 
 impl EqualAges {
-    // Whether a later slot of age `later` goes before an earlier one of age `earlier`.
-    pub fn exceeds(self, earlier: u32, later: u32) -> bool
-        ensures { λ r. ⌜ r ≡ exceeds self earlier later ⌝ }
+    // What a later slot's age is raised by before it is compared, so that one `<` decides under either rule.
+    pub fn margin(self) -> u64
+        ensures { λ r. ⌜ r ≡ margin self ⌝ }
     {
         match self {
-            EqualAges::First => earlier < later,
-            EqualAges::Last => earlier <= later,
+            EqualAges::First => 0,
+            EqualAges::Last => 1,
         }
     }
 }
@@ -64,12 +64,13 @@ pub fn first_free(active: &[bool; 16]) -> Found
 pub fn oldest(last_used: &[u32; 16], tick: u32, rule: EqualAges) -> usize
     ensures { λ r. ⌜ r ≡ oldest rule tick (now («last_used» .entry)) ⌝ }
 {
+    let margin = rule.margin();
     let mut slot: usize = 0;
-    let mut greatest = age(tick, last_used[0]);
+    let mut greatest = age(tick, last_used[0]) as u64;
     let mut i: usize = 1;
     while i < 16 {
-        let a = age(tick, last_used[i]);
-        if rule.exceeds(greatest, a) {
+        let a = age(tick, last_used[i]) as u64;
+        if greatest < a + margin {
             greatest = a;
             slot = i;
         }
