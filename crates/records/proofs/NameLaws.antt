@@ -11,7 +11,7 @@ use native.Mathlib.Decide.{ℕ-discrete, decLt}
 use borrow.Author.Tests.{lt-ltb, le-ltb, eq-eqb, ne-eqb, eqb-true}
 use lib.Dec.{eqb, ltb}
 use lib.ListN.{length, getD, set, drop, List·getD-append, length-append, length-set, drop-of-length-le}
-use lib.Seq.{drop-cons, set-at, set-getD, getD-at, getD-take, getD-set-same, getD-set-other, length-take-le, ext-getD}
+use lib.Seq.{drop-cons, set-at, set-out, set-getD, getD-at, getD-take, getD-set-same, getD-set-other, length-take-le, ext-getD}
 use Rattle.records.proofs.Booleans.{cond-yes, and-true, and-false, and-both}
 use Rattle.records.specs.declared.name.Names.{Names}
 use Rattle.records.specs.Name.{validLen, nameOf, tabulate, octetAt, padded, agree, overwritten, sameOctets, sameName, octetsStored, nameStored}
@@ -41,6 +41,20 @@ module _ (l : List ℕ) (f : ℕ → ℕ) where
   unfolding overwritten
   length-overwritten start zero = refl
   length-overwritten start (suc n) = simp length-set (length-overwritten start n)
+
+  -- nothing is written past the list's end
+  pub overwritten-past : (start n m : ℕ) → length l ≤ start + n → n ≤ m → overwritten l start f m ≡ overwritten l start f n
+  unfolding overwritten
+  overwritten-past start n zero h w = let e : n ≡ 0 = omega arith in rw e
+  overwritten-past start n (suc m) h w = go (ℕ-discrete n (suc m)) (overwritten-past start n m h)
+    where
+      go : Dec (n ≡ suc m) → (n ≤ m → overwritten l start f m ≡ overwritten l start f n) → set (overwritten l start f m) (start + m) (f m) ≡ overwritten l start f n
+      go (yes e) ih = rw e
+      go (no e) ih = set-out (overwritten l start f m) (start + m) (f m) (omega (arith, length-overwritten start m)) ∙ ih (omega arith)
+
+  pub overwritten-none : (start m : ℕ) → length l ≤ start → overwritten l start f m ≡ l
+  unfolding overwritten
+  overwritten-none start m h = overwritten-past start 0 m (omega arith) (omega arith)
 
   -- from the first place on, as far as the list goes
   overwritten-front : (n : ℕ) → n ≤ length l → overwritten l 0 f n ≡ tabulate f n ++ drop n l

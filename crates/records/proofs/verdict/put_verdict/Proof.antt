@@ -1,75 +1,48 @@
--- `put_verdict` meets its contract. The invariant: the places passed are written.
-use mathlib.Core.Path.{_≡_, refl, ap, _∙_}
-use Prim.Native.Nat.{_≤_, _-_}
+-- `put_verdict` meets its contract.
+use mathlib.Core.Path.{sym, _∙_}
 use native.Mathlib.Omega.{arith}
 use borrow.Author.Needs.{needs}
-use lib.ListN.{length}
-use Rattle.records.specs.Name.{octetAt, overwritten}
-use Rattle.records.proofs.NameLaws.{overwritten-more, length-overwritten}
+use Rattle.records.specs.Name.{octetAt}
+use Rattle.records.proofs.NameLaws.{overwritten-past, overwritten-none}
 use Rattle.records.proofs.verdict.put_verdict.Statement.{statement}
 use Rattle.records.proofs.verdict.put_verdict.Tie as tie
 use Rattle.records.proofs.verdict.put_verdict.Reads as reads
 use Rattle.records.proofs.verdict.put_verdict.Lts as lts
 
-abbrev Inv-loop : tie.InvT-loop
-Inv-loop verdicts₀ at verdict i₀ verdicts i = (i ≤ 8) × (verdicts ≡ overwritten verdicts₀ at (octetAt verdict) i)
-
-abbrev μ-loop : tie.MeasureT-loop
-μ-loop verdicts₀ at verdict i₀ verdicts i = 8 - i
-
-loop-holds : tie.Need-loop-holds Inv-loop μ-loop
-unfolding overwritten
-loop-holds c = (omega arith, refl)
-
-array-read-verdicts : tie.Need-array-read-verdicts Inv-loop μ-loop
-array-read-verdicts c = omega arith
-
-add-verdicts : tie.Need-add-verdicts Inv-loop μ-loop
-add-verdicts c = search needs
-
-slice-write-verdicts : tie.Need-slice-write-verdicts Inv-loop μ-loop
-slice-write-verdicts c =
-    let l = c .before .loop in
-    let a = c .before .before .args in
-    let e = ap length (l .inv .1) ∙ length-overwritten (a .verdicts .now) (octetAt (a .t3)) (a .at) (l .i) in
-    rw e (search needs)
-
-add-i : tie.Need-add-i Inv-loop μ-loop
-add-i c = omega arith
-
-loop-less : tie.Need-loop-less Inv-loop μ-loop
-loop-less c = omega arith
-
-loop-again : tie.Need-loop-again Inv-loop μ-loop
-loop-again c =
-    let l = c .before .loop in
-    let a = c .before .before .args in
-    (omega arith, overwritten-more _ (octetAt (a .t3)) (a .at) (l .i) (l .inv .1) refl refl)
-
-same-length : tie.Need-same-length Inv-loop μ-loop
-same-length c =
-    let l = c .before .loop in
-    let a = c .before .before .args in
-    ap length (l .inv .1) ∙ length-overwritten (a .verdicts .now) (octetAt (a .t3)) (a .at) (l .i)
-
-returns : tie.Need-returns Inv-loop μ-loop
+returns : tie.Need-returns
 returns c =
-    let l = c .before .loop in
-    let e : l .i ≡ 8 = omega arith in
-    rw e at (l .inv .1)
+    let a = c .before .before .args in
+    sym (overwritten-none _ (octetAt (a .verdict)) (a .at) 8 (omega arith))
+
+put-first-requires : tie.Need-put-first-requires
+put-first-requires c κs = search needs
+
+put-first-requires-2 : tie.Need-put-first-requires-2
+put-first-requires-2 c κs = search needs
+
+same-length : tie.Need-same-length
+same-length c = search needs
+
+returns-2 : tie.Need-returns-2
+returns-2 c =
+    let a = c .before .before .before .before .before .before .before .args in
+    c .before .before .put-first .ensures
+    ∙ sym (overwritten-past _ (octetAt (a .verdict)) (a .at) _ 8 (omega arith) (omega arith))
+
+same-length-2 : tie.Need-same-length-2
+same-length-2 c = search needs
+
+returns-3 : tie.Need-returns-3
+returns-3 c = search needs
 
 pub put-verdict-spec : {M : Type 1} → statement M
 put-verdict-spec =
     tie.close
     (tie.spec
-    Inv-loop
-    μ-loop
-    loop-holds
-    array-read-verdicts
-    add-verdicts
-    slice-write-verdicts
-    add-i
-    loop-less
-    loop-again
+    returns
+    put-first-requires
+    put-first-requires-2
     same-length
-    returns)
+    returns-2
+    same-length-2
+    returns-3)
