@@ -5,3 +5,4 @@ pub mod HeaderLaws
 pub mod SvLaws
 pub mod PointsHold
 pub mod SvLegal
+pub mod SvRecordLaws

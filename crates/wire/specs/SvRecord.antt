@@ -1,7 +1,11 @@
 -- SV frames as records of 160 octets, as C lays the frame's struct out; numbers stand least significant octet first.
 use Prim.Native.Nat.{ℕ, _+_, _*_}
+use mathlib.Core.Bool.{cond}
 use mathlib.Core.List.{List}
+use lib.Dec.{ltb}
+use lib.ListN.{length}
 use Rattle.records.specs.declared.frame.SvFrame.{SvFrame}
+use Rattle.records.specs.Frame.{defaultSv}
 use Rattle.records.specs.Name.{octetAt, tabulate}
 
 -- n octets from a place on
@@ -18,9 +22,9 @@ number32 octets at = number16 octets at + number16 octets (at + 2) * 65536
 abbrev pub number64 : List ℕ → ℕ → ℕ
 number64 octets at = number32 octets at + number32 octets (at + 4) * 4294967296
 
--- the frame in a record
-unfoldable pub svFrameOf : List ℕ → SvFrame
-svFrameOf octets =
+-- the frame whose fields stand each at its place
+abbrev pub fieldsOf : List ℕ → SvFrame
+fieldsOf octets =
     record {
       «src_mac» = octetsAt octets 0 6;
       «svid_len» = octetAt octets 6;
@@ -33,3 +37,7 @@ svFrameOf octets =
       «t_seconds_since_epoch» = number32 octets 152;
       «t_fraction_of_second» = number32 octets 156;
     }
+
+-- the frame in a record; fewer than 160 octets are the default frame
+unfoldable pub svFrameOf : List ℕ → SvFrame
+svFrameOf octets = cond (ltb (length octets) 160) defaultSv (fieldsOf octets)

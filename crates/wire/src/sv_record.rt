@@ -64,11 +64,13 @@ fn name_at(octets: &[u8], at: usize) -> [u8; 64]
     out
 }
 
-// The frame in a record.
+// The frame in a record; fewer than 160 octets are the default frame.
 pub fn sv_frame_of(octets: &[u8]) -> SvFrame
-    requires { ⌜ 160 ≤ length (now octets) ⌝ }
     ensures { λ r. ⌜ r ≡ svFrameOf (now (octets .entry)) ⌝ }
 {
+    if octets.len() < SV_RECORD_LEN {
+        return SvFrame::default();
+    }
     SvFrame {
         src_mac: mac_at(octets, 0),
         svid_len: octet_at(octets, 6),

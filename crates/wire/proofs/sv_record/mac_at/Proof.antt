@@ -1,25 +1,21 @@
 -- `mac_at` meets its contract. The invariant: the places passed are written.
-use mathlib.Core.Path.{_≡_, refl, _∙_}
-use Prim.Native.Nat.{_+_, _≤_, _-_}
+use Prim.Native.Nat.{_-_}
 use native.Mathlib.Omega.{arith}
 use borrow.Author.Needs.{needs}
-use lib.ListN.{replicate}
-use Rattle.records.specs.Name.{octetAt, overwritten}
-use Rattle.records.proofs.NameLaws.{overwritten-more, overwritten-whole}
+use Rattle.wire.proofs.SvRecordLaws.{Copied, copied-none, copied-more, copied-all}
 use Rattle.wire.proofs.sv_record.mac_at.Statement.{statement}
 use Rattle.wire.proofs.sv_record.mac_at.Tie as tie
 use Rattle.wire.proofs.sv_record.mac_at.Reads as reads
 use Rattle.wire.proofs.sv_record.mac_at.Lts as lts
 
 abbrev Inv-loop : tie.InvT-loop
-Inv-loop octets at out₀ i₀ out i = (i ≤ 6) × (out ≡ overwritten (replicate 6 0) 0 (λ k. octetAt octets (at + k)) i)
+Inv-loop octets at out₀ i₀ out i = Copied octets at 6 out i
 
 abbrev μ-loop : tie.MeasureT-loop
 μ-loop octets at out₀ i₀ out i = 6 - i
 
 loop-holds : tie.Need-loop-holds Inv-loop μ-loop
-unfolding overwritten
-loop-holds c = (omega arith, refl)
+loop-holds c = copied-none _ _ 6
 
 add-out : tie.Need-add-out Inv-loop μ-loop
 add-out c = search needs
@@ -37,15 +33,10 @@ loop-less : tie.Need-loop-less Inv-loop μ-loop
 loop-less c = omega arith
 
 loop-again : tie.Need-loop-again Inv-loop μ-loop
-loop-again c =
-    let l = c .before .before .loop in
-    (omega arith, overwritten-more (replicate 6 0) _ 0 (l .i) (l .inv .1) (omega arith) refl)
+loop-again c = copied-more _ _ 6 (c .before .before .loop .inv) (c .before .loop-test .taken)
 
 returns : tie.Need-returns Inv-loop μ-loop
-returns c =
-    let l = c .before .loop in
-    let e : l .i ≡ 6 = omega arith in
-    (rw e at (l .inv .1)) ∙ overwritten-whole (replicate 6 0) _ 6 refl
+returns c = copied-all _ _ 6 (c .before .loop .inv) (c .loop-test .left)
 
 pub mac-at-spec : {M : Type 1} → statement M
 mac-at-spec =

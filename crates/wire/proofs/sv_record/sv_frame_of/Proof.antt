@@ -1,8 +1,16 @@
 -- `sv_frame_of` meets its contract.
+use mathlib.Core.Path.{sym, _∙_}
+use native.Mathlib.Omega.{arith}
 use borrow.Author.Needs.{needs}
-use Rattle.wire.specs.SvRecord.{svFrameOf}
+use Rattle.wire.proofs.SvRecordLaws.{whole-record, short-record}
 use Rattle.wire.proofs.sv_record.sv_frame_of.Statement.{statement}
 use Rattle.wire.proofs.sv_record.sv_frame_of.Tie as tie
+
+default-requires : tie.Need-default-requires
+default-requires c κs = search needs
+
+returns : tie.Need-returns
+returns c = c .default .ensures ∙ sym (short-record (c .before .before .before .args .octets .now) (omega arith))
 
 mac-at-requires : tie.Need-mac-at-requires
 mac-at-requires c κs = search needs
@@ -34,10 +42,9 @@ u32-at-requires c κs = search needs
 u32-at-requires-2 : tie.Need-u32-at-requires-2
 u32-at-requires-2 c κs = search needs
 
-returns : tie.Need-returns
-unfolding svFrameOf
-returns c =
-    λ i. record {
+returns-2 : tie.Need-returns-2
+returns-2 c =
+    (λ i. record {
       «src_mac» = c .before .before .before .before .before .before .before .before .before .mac-at .ensures i;
       «svid_len» = c .before .before .before .before .before .before .before .before .octet-at .ensures i;
       svid = c .before .before .before .before .before .before .before .name-at .ensures i;
@@ -48,12 +55,15 @@ returns c =
       «timestamp_us» = c .before .before .u64-at .ensures i;
       «t_seconds_since_epoch» = c .before .u32-at .ensures i;
       «t_fraction_of_second» = c .u32-at2 .ensures i;
-    }
+    })
+    ∙ sym (whole-record (c .before .before .before .before .before .before .before .before .before .before .before .before .args .octets .now) (omega arith))
 
 pub sv-frame-of-spec : {M : Type 1} → statement M
 sv-frame-of-spec =
     tie.close
     (tie.spec
+    default-requires
+    returns
     mac-at-requires
     octet-at-requires
     name-at-requires
@@ -64,4 +74,4 @@ sv-frame-of-spec =
     u64-at-requires
     u32-at-requires
     u32-at-requires-2
-    returns)
+    returns-2)
