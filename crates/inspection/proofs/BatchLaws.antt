@@ -1,68 +1,25 @@
 -- Laws of many SV frames in one call: how far the records reach, and one more frame.
 use Prim.Native.Nat.{ℕ, zero, suc, _+_, _-_, _*_, _≤_, _<_}
-use mathlib.Core.Bool.{true, false, _&&_, false≢true}
-use mathlib.Core.List.{List, [], _∷_, _++_, foldl}
-use mathlib.Core.Path.{_≡_, refl, sym, ap, _∙_}
+use mathlib.Core.List.{List, foldl}
+use mathlib.Core.Path.{_≡_, refl, ap, _∙_}
 use native.Mathlib.Numerals.{add-one}
 use native.Mathlib.Omega.{arith}
 use lib.ListN.{length, take, drop, length-take, length-drop}
 use Rattle.records.specs.declared.frame.SvFrame.{SvFrame}
-use Rattle.records.specs.declared.result.AlertCounters.{AlertCounters}
 use Rattle.records.specs.declared.result.Pushed.{Pushed}
-use Rattle.records.specs.Alert.{sourceSv, noAlert, alertOf}
+use Rattle.records.specs.Alert.{sourceSv}
 use Rattle.records.specs.Counter.{saturated}
 use Rattle.records.specs.Name.{octetAt, overwritten}
 use Rattle.records.specs.Result.{cleanResult}
-use Rattle.records.specs.Verdict.{verdictOf}
 use Rattle.wire.specs.SvRecord.{svFrameOf}
-use Rattle.records.proofs.Booleans.{and-both}
 use Rattle.records.proofs.NameLaws.{length-overwritten}
-use Rattle.inspection.specs.declared.batch.Noted.{Noted}
-use Rattle.inspection.specs.declared.report.CheckAlert.{CheckAlert}
-use Rattle.inspection.specs.declared.report.CheckAlert.the-variants.{Nothing, Refusal, Notice}
-use Rattle.inspection.specs.declared.report.CheckAlerts.{CheckAlerts}
+use Rattle.inspection.specs.declared.report.Noted.{Noted}
 use Rattle.inspection.specs.declared.monitor.Iec61850Monitor.{Iec61850Monitor}
-use Rattle.inspection.specs.declared.monitor.Inspected.{Inspected}
-use Rattle.inspection.specs.Batch.{isNothing, notedOf, batchCount, frameAt, svAfter, svVerdicts}
+use Rattle.inspection.specs.Batch.{batchCount, frameAt, svAfter, svVerdicts}
 use Rattle.inspection.specs.InspectSv.{inspectSv, svBinding}
 use Rattle.inspection.specs.Monitor.{mmsTotalInspected, gooseTotalInspected, withTotals, withAlerts}
-use Rattle.inspection.specs.Report.{Finding, ended, reportedNext, findingsOf, alertsOf}
-use Rattle.inspection.proofs.StageLaws.{sv-inspected}
-
--- a check that found nothing has no alerts
-nothing-found : (a : CheckAlert) → isNothing a ≡ true → findingsOf a ≡ []
-nothing-found Nothing e = refl
-nothing-found (Refusal severity code) e = absurd (false≢true e)
-nothing-found (Notice severity code) e = absurd (false≢true e)
-
-none-found : (a : CheckAlerts) → (isNothing (a .first) && (isNothing (a .second) && isNothing (a .third))) ≡ true → alertsOf a ≡ []
-none-found a e =
-    let x = and-both (isNothing (a .first)) _ e in
-    let y = and-both (isNothing (a .second)) _ (x .1) in
-    λ i. nothing-found (a .first) (x .0) i ++ (nothing-found (a .second) (y .0) i ++ nothing-found (a .third) (y .1) i)
-
--- the verdict without an alert
-clean-noted :
-    (source : ℕ) (counters : AlertCounters)
-    → record { verdict = 1 ∷ 0 ∷ 0 ∷ 0 ∷ 0 ∷ 0 ∷ 0 ∷ 0 ∷ []; counters = counters }
-    ≡ notedOf (record { result = cleanResult source; counters = counters })
-unfolding verdictOf cleanResult noAlert alertOf
-clean-noted source counters = refl
-
-pub nothing-noted :
-    (source number time : ℕ) (counters : AlertCounters) (a : CheckAlerts)
-    → (isNothing (a .first) && (isNothing (a .second) && isNothing (a .third))) ≡ true
-    → record { verdict = 1 ∷ 0 ∷ 0 ∷ 0 ∷ 0 ∷ 0 ∷ 0 ∷ 0 ∷ []; counters = counters }
-    ≡ notedOf (foldl (reportedNext source number time) (record { result = cleanResult source; counters = counters }) (alertsOf a))
-nothing-noted source number time counters a e =
-    clean-noted source counters
-    ∙ ap (λ (l : List Finding). notedOf (foldl (reportedNext source number time) (record { result = cleanResult source; counters = counters }) l))
-    (sym (none-found a e))
-
--- the verdict of a result that reports alerts
-pub alerts-noted :
-    {p p′ : Pushed} {verdict : List ℕ} → p ≡ p′ → verdict ≡ verdictOf (p .result) → record { verdict = verdict; counters = p .counters } ≡ notedOf p′
-alerts-noted {p} e w = (λ i. record { verdict = w i; counters = p .counters }) ∙ ap notedOf e
+use Rattle.inspection.specs.Report.{Finding, ended, reportedNext, notedOf}
+use Rattle.inspection.proofs.StageLaws.{sv-inspected, noted-after, noted-verdict}
 
 -- the record of a frame that is inspected and its verdict lie within their octets
 module _ (frames verdicts : ℕ) {i n : ℕ} (e : n ≡ batchCount frames verdicts) (h : i < n) where
@@ -121,22 +78,16 @@ module _ (m : Iec61850Monitor) (frames : List ℕ) where
       abbrev pushes : Pushed
       pushes = foldl (reportedNext sourceSv (f .«smp_cnt») (f .«timestamp_us»)) (record { result = cleanResult sourceSv; counters = after .totals .alerts }) findings
 
-      abbrev next : Inspected
-      next = inspectSv (svAfter m frames n) (frameAt frames n)
-
-      inspected : record { monitor = withAlerts after (pushes .counters); result = pushes .result } ≡ next
+      inspected : record { monitor = withAlerts after (pushes .counters); result = pushes .result } ≡ inspectSv (svAfter m frames n) (frameAt frames n)
       inspected = sv-inspected before f after findings t e refl ∙ (λ i. inspectSv (a i) (g i))
 
       pub after-more : withAlerts after (q .counters) ≡ svAfter m frames (n + 1)
       unfolding svAfter
-      after-more = rw add-one (ap (λ (x : Noted). withAlerts after (x .counters)) r ∙ ap (λ (x : Inspected). x .monitor) inspected)
+      after-more = rw add-one (noted-after after r inspected)
 
       pub verdicts-more :
           (octets : List ℕ) {verdicts : List ℕ}
           → verdicts ≡ svVerdicts m frames octets n
           → overwritten verdicts (n * 8) (octetAt (q .verdict)) 8 ≡ svVerdicts m frames octets (n + 1)
       unfolding svVerdicts
-      verdicts-more octets v =
-          rw add-one
-          ((λ i. overwritten (v i) (n * 8) (octetAt (r i .verdict)) 8)
-          ∙ ap (λ (x : Inspected). overwritten (svVerdicts m frames octets n) (n * 8) (octetAt (verdictOf (x .result))) 8) inspected)
+      verdicts-more octets v = rw add-one (λ i. overwritten (v i) (n * 8) (octetAt (noted-verdict after r inspected i)) 8)

@@ -14,11 +14,5 @@ pub mod ReportLaws
 pub mod SettingLaws
 pub mod CallLaws
 pub mod CallTheoremsHold
-pub mod PlainMonitor
 pub mod StreamTables
-pub mod RememberedLaws
-pub mod Observables
-pub mod Demand3Holds
-pub mod Demand3Instances
-pub mod Demand3MixedHolds
 pub mod PointsHold

@@ -1,66 +1,29 @@
--- What an inspection's result answers: its alerts' codes in their order, and allowed unless one of them refuses or denies. How its alerts are
--- numbered and counted.
+-- How the alerts of an inspection's result are numbered and counted.
 use Prim.Native.Nat.{ℕ, _+_, _-_, _≤_, _<_, _%_, _^_, min}
-use mathlib.Core.Bool.{Bool, true, _&&_, not}
 use mathlib.Core.List.{List, [], _∷_, _++_, map, map-append, foldl, append-assoc, append-nil}
 use mathlib.Core.Path.{_≡_, refl, sym, ap, _∙_}
 use native.Mathlib.Nat.{add-zero}
 use native.Mathlib.Numerals.{add-one}
 use native.Mathlib.Omega.{arith}
 use borrow.Author.Tests.{lt-ltb}
-use lib.ListN.{length, set, take, length-append, length-set}
+use lib.ListN.{length, set, take, length-set}
 use lib.Seq.{length-take-le, take-suc-set}
 use Rattle.records.specs.declared.alert.CodedAlert.{CodedAlert}
 use Rattle.records.specs.declared.result.Pushed.{Pushed}
-use Rattle.records.specs.Alert.{denies, codeNumber, alertOf}
+use Rattle.records.specs.Alert.{alertOf}
 use Rattle.records.specs.Counter.{saturated}
-use Rattle.records.specs.Result.{cleanResult, allowedWith, counted, withAlert, pushed}
+use Rattle.records.specs.Result.{cleanResult, counted, withAlert, pushed}
 use Rattle.inspection.specs.declared.monitor.Iec61850Monitor.{Iec61850Monitor}
 use Rattle.inspection.specs.declared.monitor.Inspected.{Inspected}
 use Rattle.inspection.specs.CallTheorems.{alertsIn, AtMostThree, nextNumber, numbersIn, numbersFrom}
-use Rattle.inspection.specs.Demand3.{Answer, answerOf}
 use Rattle.inspection.specs.Monitor.{totalAlerts}
 use Rattle.inspection.specs.Report.{Finding, Checked, reportedNext, reported}
-
--- an answer with the findings behind it
-abbrev pub answerFrom : Bool → List ℕ → List Finding → Answer
-answerFrom allowed codes [] = (allowed, codes)
-answerFrom allowed codes (a ∷ rest) = answerFrom ((allowed && not (a .refuses)) && not (denies (a .severity))) (codes ++ codeNumber (a .code) ∷ []) rest
-
-pub length-codes : (allowed : Bool) (codes : List ℕ) (findings : List Finding) → length (answerFrom allowed codes findings .1) ≡ length codes + length findings
-length-codes allowed codes [] = omega arith
-length-codes allowed codes (a ∷ rest) = length-codes _ (codes ++ codeNumber (a .code) ∷ []) rest ∙ simp length-append (omega arith)
-
-abbrev code : CodedAlert → ℕ
-code a = codeNumber (a .code)
 
 -- what is read of each alert, codes or numbers, with one more alert in the next slot
 pub slots-more :
     (read : CodedAlert → ℕ) (l : List CodedAlert) (k : ℕ) (a : CodedAlert)
     → k < length l → map read (take (k + 1) (set l k a)) ≡ map read (take k l) ++ read a ∷ []
 slots-more read l k a h = rw (add-one, take-suc-set l k a h) (map-append read (take k l) (a ∷ []))
-
-module _ (source sourceNumber time : ℕ) where
-  -- a result with slots for all findings
-  answer-reported :
-      (p : Pushed) (findings : List Finding)
-      → length (p .result .alerts) ≡ 4 → p .result .«alert_count» + length findings ≤ 4
-      → answerOf (foldl (reportedNext source sourceNumber time) p findings .result) ≡ answerFrom (p .result .allowed) (answerOf (p .result) .1) findings
-  unfolding pushed withAlert allowedWith alertOf
-  answer-reported p [] size h = refl
-  answer-reported p (a ∷ rest) size h =
-      let r = p .result in
-      let w : r .«alert_count» < 4 = omega arith in
-      let q = reportedNext source sourceNumber time p a in
-      let full = lt-ltb (r .«alert_count») 4 w in
-      answer-reported q rest (rw full (length-set (r .alerts) (r .«alert_count») _ ∙ size)) (rw full (omega arith))
-      ∙ rw (full, slots-more code (r .alerts) (r .«alert_count») _ (omega arith))
-
-  pub reported-answer : (c : Checked) → length (c .findings) ≤ 4 → answerOf (reported source sourceNumber time c .result) ≡ answerFrom true [] (c .findings)
-  unfolding reported cleanResult
-  reported-answer c h = answer-reported (record { result = cleanResult source; counters = c .monitor .totals .alerts }) (c .findings) refl (omega arith)
-
--- ---- counters and numbers
 
 -- a total stays at the most that 64 bits hold, a number wraps
 abbrev pub saturating : ℕ → ℕ

@@ -11,12 +11,14 @@ use Rattle.records.specs.declared.name.Names.{Names}
 use Rattle.records.specs.declared.search.Found.{Found}
 use Rattle.records.specs.declared.search.Found.the-variants.{At, Nothing}
 use Rattle.records.specs.Ageing.{firstFree}
-use Rattle.records.specs.Name.{padded, sameName, sameOctets, nameStored}
+use Rattle.records.specs.Name.{nameOf, padded, sameName, sameOctets, nameStored}
 use Rattle.records.specs.Search.{first}
 use Rattle.records.proofs.Booleans.{and-false, cond-yes, cond-no, answered}
 use Rattle.records.proofs.TableLaws.{found-below}
 use Rattle.inspection.specs.declared.reservation.CbReservations.{CbReservations}
-use Rattle.inspection.specs.Reservation.{sameKind, reservesAt, reserves, ownedAt, ownedBy, reservationOf, takenAt, placeOr, reservedAt, reserved, freedBelow, withActive, freedAt, released, boundTo, usedBy, cbChecked, cbKeptChecked, cbKeptReservedAt, cbKeptReserved, cbKeptReleased}
+use Rattle.inspection.specs.declared.reservation.CbChecked.{CbChecked}
+use Rattle.inspection.specs.InspectSv.{dataSetUsed}
+use Rattle.inspection.specs.Reservation.{sameKind, reservesAt, reserves, ownedAt, ownedBy, reservationOf, takenAt, placeOr, reservedAt, reserved, freedBelow, withActive, freedAt, released, boundTo, usedBy, cbChecked, cbKeptReservedAt, cbKeptReserved, cbKeptReleased}
 
 -- ---- the test of a slot
 
@@ -142,23 +144,33 @@ module _ (r : CbReservations) (address : ℕ) {f : Found} where
     pub used-first : getD (r .bound) i false ≡ false → record { table = boundTo r i address; hijack = false } ≡ usedBy r address f
     used-first b = sym (ap (λ (x : Found). usedBy r address x) a ∙ cond-no _ _ b)
 
--- ---- the use by a frame, from the name as it is kept
+-- ---- the use by a frame, of the name that it states
 
-module _ (r : CbReservations) (octets : List ℕ) (len : ℕ) (isGoose : Bool) (address : ℕ) where
-  pub kept-empty : len ≡ 0 → record { table = r; hijack = false } ≡ cbKeptChecked r octets len isGoose address
-  unfolding cbKeptChecked
-  kept-empty z = sym (cond-yes _ _ (eq-eqb len 0 z))
+module _ (r : CbReservations) (name : List ℕ) (isGoose : Bool) (address : ℕ) where
+  pub empty-not-used : length name ≡ 0 → record { table = r; hijack = false } ≡ cbChecked r name isGoose address
+  unfolding cbChecked
+  empty-not-used z = sym (cond-yes _ _ (eq-eqb (length name) 0 z))
 
-  pub kept-found :
-      {f : Found} → (len ≡ 0 → ⊥)
+  -- a name is looked up as it is kept: its octets, padded, and its length
+  pub used-found :
+      {f : Found} {octets : List ℕ} {len : ℕ} → octets ≡ padded name (length name) → len ≡ length name → (len ≡ 0 → ⊥)
       → f ≡ first (reservesAt (r .«cb_ref» .octets) (r .«cb_ref» .lens) (r .«is_goose») (r .active) octets len isGoose)
-      → usedBy r address f ≡ cbKeptChecked r octets len isGoose address
-  unfolding cbKeptChecked
-  kept-found z e = ap (λ (x : Found). usedBy r address x) e ∙ sym (cond-no _ _ (ne-eqb len 0 z))
+      → usedBy r address f ≡ cbChecked r name isGoose address
+  unfolding cbChecked reservationOf
+  used-found k l z e =
+      ap (λ (x : Found). usedBy r address x) (e ∙ (λ i. first (reservesAt (r .«cb_ref» .octets) (r .«cb_ref» .lens) (r .«is_goose») (r .active) (k i) (l i) isGoose)))
+      ∙ sym (cond-no _ _ (ne-eqb (length name) 0 (λ y. z (l ∙ y))))
 
--- a name is kept as its octets, padded, and its length
-pub kept-used :
-    (r : CbReservations) (name : List ℕ) (isGoose : Bool) (address : ℕ) {octets : List ℕ} {len : ℕ}
-    → octets ≡ padded name (length name) → len ≡ length name → cbKeptChecked r octets len isGoose address ≡ cbChecked r name isGoose address
-unfolding cbKeptChecked cbChecked reservationOf
-kept-used r name isGoose address e l = rw (e, l)
+-- ---- the data set of an SV frame, if the rules permit it
+
+module _ (r : CbReservations) (octets : List ℕ) (len address : ℕ) (passed : Bool) where
+  pub not-passed : passed ≡ false → record { table = r; hijack = false } ≡ dataSetUsed passed r (nameOf octets len) address
+  not-passed e = sym (cond-no _ _ e)
+
+  module _ (e : passed ≡ true) where
+    pub no-data-set : len ≡ 0 → record { table = r; hijack = false } ≡ dataSetUsed passed r (nameOf octets len) address
+    no-data-set z = empty-not-used r (nameOf octets len) false address (ap (λ (n : ℕ). length (nameOf octets n)) z) ∙ sym (cond-yes _ _ e)
+
+    pub data-set-used :
+        {c : CbChecked} → c ≡ cbChecked r (nameOf octets len) false address → c ≡ dataSetUsed passed r (nameOf octets len) address
+    data-set-used u = u ∙ sym (cond-yes _ _ e)

@@ -1,6 +1,6 @@
 -- Laws of the stages of an inspection: each way out of a stage, and what the stage then finds.
 use Prim.Native.Nat.{ℕ, _≤_}
-use mathlib.Core.Bool.{Bool, true, false, _&&_, _||_, cond, not}
+use mathlib.Core.Bool.{Bool, true, false, _&&_, _||_, cond, not, false≢true}
 use mathlib.Core.List.{List, [], _∷_, _++_, append-nil, foldl, foldl-append}
 use mathlib.Core.Path.{_≡_, refl, sym, ap, _∙_}
 use native.Mathlib.Omega.{arith}
@@ -20,14 +20,15 @@ use Rattle.records.specs.declared.result.InspectResult.{InspectResult}
 use Rattle.records.specs.declared.result.Pushed.{Pushed}
 use Rattle.records.specs.declared.search.Found.{Found}
 use Rattle.records.specs.declared.search.Found.the-variants.{At}
-use Rattle.records.specs.Alert.{sourceSv}
+use Rattle.records.specs.Alert.{sourceMms, sourceGoose, sourceSv, noAlert, alertOf}
 use Rattle.records.specs.Counter.{saturated}
 use Rattle.records.specs.Hash.{fnv1a}
 use Rattle.records.specs.Name.{validLen, nameOf, padded}
 use Rattle.records.specs.Result.{cleanResult, pushed}
 use Rattle.records.specs.Search.{isFound}
+use Rattle.records.specs.Verdict.{verdictOf}
 use Rattle.records.specs.Service.{serviceNumber, isWrite}
-use Rattle.records.proofs.Booleans.{and-true, and-false, answered, cond-yes, cond-no}
+use Rattle.records.proofs.Booleans.{and-true, and-false, and-both, answered, cond-yes, cond-no}
 use Rattle.records.proofs.NameLaws.{kept-len, kept-octets}
 use Rattle.wire.specs.declared.sv.Parsed.{Parsed}
 use Rattle.wire.specs.declared.sv.Parsed.the-variants.{Frame, Error}
@@ -41,13 +42,13 @@ use Rattle.inspection.specs.declared.monitor.Inspected.{Inspected}
 use Rattle.inspection.specs.declared.rate.RateChecked.{RateChecked}
 use Rattle.inspection.specs.declared.report.CheckAlert.{CheckAlert}
 use Rattle.inspection.specs.declared.report.CheckAlerts.{CheckAlerts}
-use Rattle.inspection.specs.declared.report.CheckAlert.the-variants.{Nothing}
+use Rattle.inspection.specs.declared.report.Noted.{Noted}
+use Rattle.inspection.specs.declared.report.CheckAlert.the-variants.{Nothing, Refusal, Notice}
 use Rattle.inspection.specs.declared.reservation.CbReservations.{CbReservations}
 use Rattle.inspection.specs.declared.reservation.CbChecked.{CbChecked}
 use Rattle.inspection.specs.declared.reservation.Reserved.{Reserved}
 use Rattle.inspection.specs.declared.rules.RuleCheck.{RuleCheck}
 use Rattle.inspection.specs.declared.rules.RuleCheck.the-variants.{Refused, Rate}
-use Rattle.inspection.specs.declared.sv_publisher.PublisherMatch.{PublisherMatch}
 use Rattle.inspection.specs.declared.sv_publisher.PublisherMatch.the-variants.{Fits}
 use Rattle.inspection.specs.declared.sv_seq.SvChecked.{SvChecked}
 use Rattle.inspection.specs.declared.sv_seq.SvSeqOutcome.{SvSeqOutcome}
@@ -56,22 +57,45 @@ use Rattle.inspection.specs.declared.time_field.TimeChecked.{TimeChecked
 use Rattle.inspection.specs.Address.{addressOf}
 use Rattle.inspection.specs.GoosePublisher.{firstFitting, goosePublisher}
 use Rattle.inspection.specs.GooseSeq.{controlBlock, gooseTimed, retxChecked, gooseChecked}
-use Rattle.inspection.specs.InspectGoose.{goosePair, streamFindings, gooseStream, gooseClock, gooseTimeField, gooseBound, gooseReservation, gooseAllowed, blocked, gooseTest}
-use Rattle.inspection.specs.InspectMms.{domainName, fullFindings, mmsReserved, mmsControl, mmsRated, mmsRate, mmsRule, mmsMask, mmsChecks}
-use Rattle.inspection.specs.InspectSv.{svPair, rateFindings, countFindings, svCount, svClock, svTimeField, svRuleCheck, inspectSv, rawInspected, inspectRawSv, svBound, svReservation, svBinding}
-use Rattle.inspection.specs.Monitor.{mmsTotalInspected, gooseTotalInspected, withTotals, countedSv, withAlerts, withReservations, withRates, withClocks, withGooseStreams, withSvStreams}
+use Rattle.inspection.specs.InspectGoose.{goosePair, streamFindings, gooseStream, gooseClock, gooseTimeField, gooseBound, gooseReservation, gooseAllowed, blocked, gooseTest, inspectGoose}
+use Rattle.inspection.specs.InspectMms.{domainName, fullFindings, mmsReserved, mmsControl, mmsRated, mmsRate, mmsRule, mmsMask, mmsChecks, inspectMms}
+use Rattle.inspection.specs.InspectSv.{svPair, rateFindings, countFindings, svTimeField, svRuleCheck, inspectSv, rawInspected, inspectRawSv, svBound, svReservation, svBinding, dataSetUsed, clockReached, firstFindings, rateReached}
+use Rattle.inspection.specs.Monitor.{mmsTotalInspected, gooseTotalInspected, svTotalInspected, withTotals, countedMms, countedGoose, countedSv, withAlerts, withReservations, withRates, withClocks, withGooseStreams, withSvStreams}
 use Rattle.inspection.specs.Rate.{rateChecked}
-use Rattle.inspection.specs.Report.{Finding, refusal, notice, clockFindings, ended, permitted, withAllowed, reportedNext, reported, findingsOf, alertsOf}
-use Rattle.inspection.specs.Reservation.{reserved, released, cbChecked, cbKeptChecked}
+use Rattle.inspection.specs.Report.{Finding, Checked, refusal, notice, clockFindings, ended, permitted, permits, withAllowed, reportedNext, reported, findingsOf, alertsOf, isNothing, noneFound, notedOf}
+use Rattle.inspection.specs.Reservation.{reserved, released, cbChecked}
 use Rattle.inspection.specs.SvPublisher.{lastFitting, svPublisher}
-use Rattle.inspection.specs.SvSeq.{svKey, isReplay, svChecked}
+use Rattle.inspection.specs.SvSeq.{svKey, isReplay, svChecked, svKeptCheckedIf}
 use Rattle.inspection.specs.TimeField.{timeChecked}
 use Rattle.inspection.proofs.GooseSeqLaws.{withoutAges, retx-columns}
-use Rattle.inspection.proofs.ReservationLaws.{kept-used}
+use Rattle.inspection.proofs.SvSeqLaws.{kept-checked}
 
 -- ---- report: alerts added one by one, and the counters put back
 
+-- a check that found nothing has no alerts
+nothing-found : (a : CheckAlert) → isNothing a ≡ true → findingsOf a ≡ []
+nothing-found Nothing e = refl
+nothing-found (Refusal severity code) e = absurd (false≢true e)
+nothing-found (Notice severity code) e = absurd (false≢true e)
+
+pub none-found : (a : CheckAlerts) → noneFound (a .first) (a .second) (a .third) ≡ true → alertsOf a ≡ []
+none-found a e =
+    let x = and-both (isNothing (a .first)) _ e in
+    let y = and-both (isNothing (a .second)) _ (x .1) in
+    λ i. nothing-found (a .first) (x .0) i ++ (nothing-found (a .second) (y .0) i ++ nothing-found (a .third) (y .1) i)
+
 module _ (source sourceNumber time : ℕ) where
+  -- without an alert the result is clean
+  pub none-pushed :
+      (counters : AlertCounters) (a : CheckAlerts) {clean : InspectResult} {none : Bool}
+      → clean ≡ cleanResult source → none ≡ noneFound (a .first) (a .second) (a .third) → none ≡ true
+      → record { result = clean; counters = counters }
+      ≡ foldl (reportedNext source sourceNumber time) (record { result = cleanResult source; counters = counters }) (alertsOf a)
+  none-pushed counters a e n h =
+      (λ i. record { result = e i; counters = counters })
+      ∙ ap (λ (l : List Finding). foldl (reportedNext source sourceNumber time) (record { result = cleanResult source; counters = counters }) l)
+      (sym (none-found a (answered n h)))
+
   -- the code refuses the result before it adds the alert
   pub refusal-added :
       (p : Pushed) (severity : AlertSeverity) (code : AlertCode)
@@ -113,6 +137,39 @@ module _ (source sourceNumber time : ℕ) where
       → record { monitor = withAlerts m (p .counters); result = p .result } ≡ reported source sourceNumber time (ended m findings)
   unfolding reported
   pushed-reported m findings e = ap (λ (p : Pushed). record { monitor = withAlerts m (p .counters); result = p .result }) e
+
+-- the verdict without an alert
+clean-noted :
+    (source : ℕ) (counters : AlertCounters)
+    → record { verdict = 1 ∷ 0 ∷ 0 ∷ 0 ∷ 0 ∷ 0 ∷ 0 ∷ 0 ∷ []; counters = counters }
+    ≡ notedOf (record { result = cleanResult source; counters = counters })
+unfolding verdictOf cleanResult noAlert alertOf
+clean-noted source counters = refl
+
+pub nothing-noted :
+    (source number time : ℕ) (counters : AlertCounters) (a : CheckAlerts)
+    → noneFound (a .first) (a .second) (a .third) ≡ true
+    → record { verdict = 1 ∷ 0 ∷ 0 ∷ 0 ∷ 0 ∷ 0 ∷ 0 ∷ 0 ∷ []; counters = counters }
+    ≡ notedOf (foldl (reportedNext source number time) (record { result = cleanResult source; counters = counters }) (alertsOf a))
+nothing-noted source number time counters a e =
+    clean-noted source counters
+    ∙ ap (λ (l : List Finding). notedOf (foldl (reportedNext source number time) (record { result = cleanResult source; counters = counters }) l))
+    (sym (none-found a e))
+
+-- the verdict of a result that reports alerts
+pub alerts-noted :
+    {p p′ : Pushed} {verdict : List ℕ} → p ≡ p′ → verdict ≡ verdictOf (p .result) → record { verdict = verdict; counters = p .counters } ≡ notedOf p′
+alerts-noted {p} e w = (λ i. record { verdict = w i; counters = p .counters }) ∙ ap notedOf e
+
+-- the monitor and the verdict that report the alerts are those of the inspection
+module _
+    (after : Iec61850Monitor) {p : Pushed} {q : Noted} {i : Inspected}
+    (r : q ≡ notedOf p) (e : record { monitor = withAlerts after (p .counters); result = p .result } ≡ i) where
+  pub noted-after : withAlerts after (q .counters) ≡ i .monitor
+  noted-after = ap (λ (x : Noted). withAlerts after (x .counters)) r ∙ ap (λ (x : Inspected). x .monitor) e
+
+  pub noted-verdict : q .verdict ≡ verdictOf (i .result)
+  noted-verdict = ap (λ (x : Noted). x .verdict) r ∙ ap (λ (x : Inspected). verdictOf (x .result)) e
 
 -- ---- MMS: the rules, the bucket, and the control action by the service's number
 
@@ -233,15 +290,12 @@ module _ (m : Iec61850Monitor) (f : GooseFrame) where
     unfolding gooseTest gooseAllowed
     listed-checked h = sym (cond-no _ _ b ∙ cond-no _ _ (answered not-listed h))
 
-  -- the reservation of the control block, looked up for the address by the name as it is kept
-  module _ {name : List ℕ} {len address : ℕ} {used : CbChecked}
-      (e : name ≡ padded (controlBlock f) (length (controlBlock f))) (l : len ≡ length (controlBlock f)) (a : address ≡ addressOf (f .«src_mac»))
-      (u : used ≡ cbKeptChecked (m .«cb_reservations») name len true address) where
+  -- the reservation of the control block, looked up for the address
+  module _ {address : ℕ} {used : CbChecked}
+      (a : address ≡ addressOf (f .«src_mac»)) (u : used ≡ cbChecked (m .«cb_reservations») (controlBlock f) true address) where
     goose-used : gooseBound m f used ≡ gooseReservation m f
     unfolding gooseReservation
-    goose-used =
-        ap (gooseBound m f)
-        (u ∙ kept-used (m .«cb_reservations») (controlBlock f) true address e l ∙ ap (cbChecked (m .«cb_reservations») (controlBlock f) true) a)
+    goose-used = ap (gooseBound m f) (u ∙ ap (cbChecked (m .«cb_reservations») (controlBlock f) true) a)
 
     pub goose-hijacked :
         {found : List Finding} → used .hijack ≡ true → found ≡ refusal High CbHijack ∷ [] → ended (withReservations m (used .table)) found ≡ gooseReservation m f
@@ -307,70 +361,128 @@ module _ (m : Iec61850Monitor) (f : SvFrame) where
       svRuleCheck (m .settings .«strict_mode») (m .rules .sv .count) (m .rules .sv .«expected_smp_rate»)
       (svPublisher (m .rules .sv) (addressOf (f .«src_mac»)) (svKey f))
 
-  -- so says the search by the padded svID and its length, and checking ends or goes on
-  module _
-      (size : length (f .svid) ≡ 64) {n address : ℕ} {kept : List ℕ} {found : PublisherMatch} {answer : RuleCheck}
-      (l : n ≡ validLen (f .«svid_len»)) (k : kept ≡ padded (f .svid) n) (a : address ≡ addressOf (f .«src_mac»))
-      (e : found ≡ lastFitting (m .rules .sv .«src_mac») (m .rules .sv .svid .octets) (m .rules .sv .svid .lens) (m .rules .sv .count) address kept n)
-      (r : answer ≡ svRuleCheck (m .settings .«strict_mode») (m .rules .sv .count) (m .rules .sv .«expected_smp_rate») found) where
-    sv-ruled : answer ≡ svRuled
-    unfolding svPublisher
-    sv-ruled =
-        let p = m .rules .sv in
-        let octets = kept-octets (f .svid) (f .«svid_len») size l k in
-        let len = kept-len (f .svid) (f .«svid_len») size l k in
-        let publisher = e ∙ (λ i. lastFitting (p .«src_mac») (p .svid .octets) (p .svid .lens) (p .count) (a i) (octets i) (len i)) in
-        r ∙ ap (svRuleCheck (m .settings .«strict_mode») (p .count) (p .«expected_smp_rate»)) publisher
+  -- so says the search by the padded svID and its length
+  sv-ruled :
+      {n address : ℕ} {kept : List ℕ} {rule : RuleCheck}
+      → kept ≡ padded (svKey f) (length (svKey f)) → n ≡ length (svKey f) → address ≡ addressOf (f .«src_mac»)
+      → rule
+      ≡ svRuleCheck (m .settings .«strict_mode») (m .rules .sv .count) (m .rules .sv .«expected_smp_rate»)
+      (lastFitting (m .rules .sv .«src_mac») (m .rules .sv .svid .octets) (m .rules .sv .svid .lens) (m .rules .sv .count) address kept n)
+      → rule ≡ svRuled
+  unfolding svPublisher
+  sv-ruled k l a r =
+      let p = m .rules .sv in
+      r
+      ∙ (λ i. svRuleCheck (m .settings .«strict_mode») (p .count) (p .«expected_smp_rate»)
+      (lastFitting (p .«src_mac») (p .svid .octets) (p .svid .lens) (p .count) (a i) (k i) (l i)))
 
-    pub sv-refused :
-        {severity : AlertSeverity} {code : AlertCode} {alerts : List Finding}
-        → answer ≡ Refused severity code → alerts ≡ refusal severity code ∷ [] → ended m alerts ≡ svBinding m f
-    unfolding svBinding
-    sv-refused g h = ap (ended m) h ∙ ap (permitted m (svReservation m f)) (answered g sv-ruled)
+  -- the further checks of the frame, each if it is reached
+  abbrev dataSetAt : Bool → ℕ → CbChecked
+  dataSetAt permitted address = dataSetUsed permitted (m .«cb_reservations») (nameOf (f .«dataset_ref») (f .«dataset_ref_len»)) address
 
-    pub sv-permitted : {rate : ℕ} → answer ≡ Rate rate → svReservation m f rate ≡ svBinding m f
-    unfolding svBinding
-    sv-permitted g = ap (permitted m (svReservation m f)) (answered g sv-ruled)
+  abbrev clockAt : Bool → ℕ → TimeChecked
+  clockAt reached address = clockReached reached (m .«time_trackers») (m .settings .«time_max_forward_jump_s») address (svPair f)
 
-  module _ (rate : ℕ) {address : ℕ} (e : address ≡ addressOf (f .«src_mac»)) where
-    -- the reservation of the data set, looked up for the address
-    sv-used :
-        {used : CbChecked}
-        → used ≡ cbChecked (m .«cb_reservations») (nameOf (f .«dataset_ref») (f .«dataset_ref_len»)) false address
-        → svBound m f rate used ≡ svReservation m f rate
-    unfolding svReservation
-    sv-used u = ap (svBound m f rate) (u ∙ ap (cbChecked (m .«cb_reservations») (nameOf (f .«dataset_ref») (f .«dataset_ref_len»)) false) e)
+  abbrev countAt : Bool → SvChecked
+  countAt reached = cond reached (svChecked (m .«sv_seq») (svKey f) (f .«smp_cnt»)) (record { table = m .«sv_seq»; outcome = FirstSeen })
 
-    -- the look-up ends the checking, or goes on
-    module _ {used : CbChecked} (u : used ≡ cbChecked (m .«cb_reservations») (nameOf (f .«dataset_ref») (f .«dataset_ref_len»)) false address) where
-      pub sv-hijacked :
-          {alerts : List Finding} → used .hijack ≡ true → alerts ≡ refusal High CbHijack ∷ []
-          → ended (withReservations m (used .table)) alerts ≡ svReservation m f rate
-      sv-hijacked h a = ap (ended (withReservations m (used .table))) a ∙ sym (cond-yes _ _ h) ∙ sv-used u
+  -- what the checks leave
+  abbrev pub svLeft : CbChecked → TimeChecked → SvChecked → Iec61850Monitor
+  svLeft used clock count = withSvStreams (withClocks (withReservations m (used .table)) (clock .table)) (count .table)
 
-      pub sv-not-hijacked : used .hijack ≡ false → svTimeField (withReservations m (used .table)) f rate ≡ svReservation m f rate
-      sv-not-hijacked h = sym (cond-no _ _ h) ∙ sv-used u
+  -- and with what they find
+  abbrev found : RuleCheck → CbChecked → TimeChecked → SvChecked → Checked
+  found rule used clock count =
+      ended (svLeft used clock count)
+      (firstFindings rule (used .hijack) (clock .alert)
+      ++ (countFindings (m .settings .«sv_max_smp_cnt_gap») [] (count .outcome)
+      ++ cond (isReplay (count .outcome)) [] (rateFindings (f .«smp_rate») (rateReached rule (used .hijack)))))
 
-    pub sv-time-field-checked :
-        (first second third : CheckAlert) {clock : TimeChecked} {count : SvChecked} {replay : Bool}
-        → clock ≡ timeChecked (m .«time_trackers») (m .settings .«time_max_forward_jump_s») address (svPair f)
-        → count ≡ svChecked (m .«sv_seq») (svKey f) (f .«smp_cnt»)
-        → replay ≡ isReplay (count .outcome)
-        → findingsOf first ≡ clockFindings (clock .alert)
-        → findingsOf second ≡ countFindings (m .settings .«sv_max_smp_cnt_gap») [] (count .outcome)
-        → findingsOf third ≡ cond replay [] (rateFindings (f .«smp_rate») rate)
-        → ended (withSvStreams (withClocks m (clock .table)) (count .table)) (alertsOf (record { first = first; second = second; third = third }))
-        ≡ svTimeField m f rate
-    unfolding svTimeField
-    sv-time-field-checked first second third {clock} {count} {replay} t s r a b d =
-        let rates = rateFindings (f .«smp_rate») rate in
-        let compared = d ∙ ap (λ (x : Bool). cond x [] rates) r in
-        let counted = (λ i. b i ++ compared i) ∙ count-then-rate (m .settings .«sv_max_smp_cnt_gap») rates (count .outcome) in
-        (λ i. ended (withSvStreams (withClocks m (clock .table)) (count .table)) (a i ++ counted i))
-        ∙ ap (svCount (withClocks m (clock .table)) f rate (clockFindings (clock .alert))) s
-        ∙ ap (svClock m f rate) (t ∙ ap (λ (n : ℕ). timeChecked (m .«time_trackers») (m .settings .«time_max_forward_jump_s») n (svPair f)) e)
+  -- where the checking ended before, count and rate find nothing
+  nothing-further :
+      countFindings (m .settings .«sv_max_smp_cnt_gap») [] FirstSeen ++ cond (isReplay FirstSeen) [] (rateFindings (f .«smp_rate») 0) ≡ []
+  unfolding countFindings isReplay rateFindings
+  nothing-further = rw (and-false (ltb 0 (f .«smp_rate»)))
 
--- a frame counted, checked and reported: `after` is the monitor that the checks leave
+  abbrev source : ℕ
+  source = addressOf (f .«src_mac»)
+
+  -- a hijack ends the checking, else the frame is checked on
+  after-data-set :
+      (rate : ℕ) (table : CbReservations) (hijack : Bool)
+      → found (Rate rate) (record { table = table; hijack = hijack }) (clockAt (not hijack) source) (countAt (not hijack))
+      ≡ svBound m f rate (record { table = table; hijack = hijack })
+  unfolding svTimeField
+  after-data-set rate table true = ap (λ (l : List Finding). ended (withReservations m table) (refusal High CbHijack ∷ l)) nothing-further
+  after-data-set rate table false =
+      ap (λ (l : List Finding). ended (svLeft (record { table = table; hijack = false }) (clockAt true source) (countAt true)) (clockFindings (clockAt true source .alert) ++ l))
+      (count-then-rate (m .settings .«sv_max_smp_cnt_gap») (rateFindings (f .«smp_rate») rate) (countAt true .outcome))
+
+  -- a refusal by the rules ends it too
+  after-rules :
+      (rule : RuleCheck)
+      → found rule (dataSetAt (permits rule) source) (clockAt (permits rule && not (dataSetAt (permits rule) source .hijack)) source)
+      (countAt (permits rule && not (dataSetAt (permits rule) source .hijack)))
+      ≡ permitted m (svReservation m f) rule
+  unfolding svReservation
+  after-rules (Refused severity code) = ap (λ (l : List Finding). ended m (refusal severity code ∷ l)) nothing-further
+  after-rules (Rate rate) = after-data-set rate (dataSetAt true source .table) (dataSetAt true source .hijack)
+
+  -- the checks one after the other, as the code makes them: each answer from those before it
+  pub sv-checked :
+      {n address rate : ℕ} {kept : List ℕ} {rule : RuleCheck} {passed reached replay : Bool} {used : CbChecked} {clock : TimeChecked} {count : SvChecked}
+      (first second third : CheckAlert)
+      → kept ≡ padded (svKey f) (length (svKey f)) → n ≡ length (svKey f) → address ≡ addressOf (f .«src_mac»)
+      → rule
+      ≡ svRuleCheck (m .settings .«strict_mode») (m .rules .sv .count) (m .rules .sv .«expected_smp_rate»)
+      (lastFitting (m .rules .sv .«src_mac») (m .rules .sv .svid .octets) (m .rules .sv .svid .lens) (m .rules .sv .count) address kept n)
+      → passed ≡ permits rule
+      → used ≡ dataSetAt passed address
+      → reached ≡ (passed && not (used .hijack))
+      → clock ≡ clockAt reached address
+      → count ≡ svKeptCheckedIf reached (m .«sv_seq») kept n (f .«smp_cnt»)
+      → findingsOf first ≡ firstFindings rule (used .hijack) (clock .alert)
+      → findingsOf second ≡ countFindings (m .settings .«sv_max_smp_cnt_gap») [] (count .outcome)
+      → replay ≡ isReplay (count .outcome)
+      → rate ≡ rateReached rule (used .hijack)
+      → findingsOf third ≡ cond replay [] (rateFindings (f .«smp_rate») rate)
+      → ended (svLeft used clock count) (alertsOf (record { first = first; second = second; third = third })) ≡ svBinding m f
+  unfolding svBinding
+  sv-checked {rule = rule} {passed = passed} {reached = reached} {used = used} {clock = clock} {count = count} first second third k l a r p u g t s x y w v z =
+      let third-found = z ∙ (λ i. cond (w i) [] (rateFindings (f .«smp_rate») (v i))) in
+      let counted = s ∙ ap (λ (c : SvChecked). cond reached c (record { table = m .«sv_seq»; outcome = FirstSeen })) (kept-checked (m .«sv_seq») (svKey f) (f .«smp_cnt») k l) in
+      (λ i. ended (svLeft used clock count) (x i ++ (y i ++ third-found i)))
+      ∙ (λ i. found rule used ((t ∙ ap (clockAt reached) a) i) (counted i))
+      ∙ ap (λ (b : Bool). found rule used (clockAt b source) (countAt b)) g
+      ∙ (λ i. found rule used (clockAt (p i && not (used .hijack)) source) (countAt (p i && not (used .hijack))))
+      ∙ ap (λ (c : CbChecked). found rule c (clockAt (permits rule && not (c .hijack)) source) (countAt (permits rule && not (c .hijack)))) (u ∙ (λ i. dataSetAt (p i) (a i)))
+      ∙ after-rules rule
+      ∙ ap (permitted m (svReservation m f)) (sv-ruled k l a r)
+
+-- ---- a frame counted, checked and reported: `after` is the monitor that the checks leave
+
+pub mms-inspected :
+    (m : Iec61850Monitor) (f : MmsFrame) (after : Iec61850Monitor) (findings : List Finding) {total : ℕ} {p : Pushed}
+    → total ≡ saturated (m .totals .«mms_total_inspected»)
+    → ended after findings ≡ mmsChecks (withTotals m total (gooseTotalInspected m) (svTotalInspected m) (m .totals .alerts)) f
+    → p ≡ foldl (reportedNext sourceMms (f .«invoke_id») (f .«timestamp_us»)) (record { result = cleanResult sourceMms; counters = after .totals .alerts }) findings
+    → record { monitor = withAlerts after (p .counters); result = p .result } ≡ inspectMms m f
+unfolding inspectMms countedMms
+mms-inspected m f after findings t e r =
+    pushed-reported sourceMms (f .«invoke_id») (f .«timestamp_us») after findings r
+    ∙ ap (reported sourceMms (f .«invoke_id») (f .«timestamp_us»)) (e ∙ ap (λ (n : ℕ). mmsChecks (withTotals m n (gooseTotalInspected m) (svTotalInspected m) (m .totals .alerts)) f) t)
+
+pub goose-inspected :
+    (m : Iec61850Monitor) (f : GooseFrame) (after : Iec61850Monitor) (findings : List Finding) {total : ℕ} {p : Pushed}
+    → total ≡ saturated (m .totals .«goose_total_inspected»)
+    → ended after findings ≡ gooseTest (withTotals m (mmsTotalInspected m) total (svTotalInspected m) (m .totals .alerts)) f
+    → p ≡ foldl (reportedNext sourceGoose (f .«st_num») (f .«timestamp_us»)) (record { result = cleanResult sourceGoose; counters = after .totals .alerts }) findings
+    → record { monitor = withAlerts after (p .counters); result = p .result } ≡ inspectGoose m f
+unfolding inspectGoose countedGoose
+goose-inspected m f after findings t e r =
+    pushed-reported sourceGoose (f .«st_num») (f .«timestamp_us») after findings r
+    ∙ ap (reported sourceGoose (f .«st_num») (f .«timestamp_us»)) (e ∙ ap (λ (n : ℕ). gooseTest (withTotals m (mmsTotalInspected m) n (svTotalInspected m) (m .totals .alerts)) f) t)
+
 pub sv-inspected :
     (m : Iec61850Monitor) (f : SvFrame) (after : Iec61850Monitor) (findings : List Finding) {total : ℕ} {p : Pushed}
     → total ≡ saturated (m .totals .«sv_total_inspected»)
@@ -380,8 +492,42 @@ pub sv-inspected :
 unfolding inspectSv countedSv
 sv-inspected m f after findings t e r =
     pushed-reported sourceSv (f .«smp_cnt») (f .«timestamp_us») after findings r
-    ∙ ap (reported sourceSv (f .«smp_cnt») (f .«timestamp_us»))
-    (e ∙ ap (λ (n : ℕ). svBinding (withTotals m (mmsTotalInspected m) (gooseTotalInspected m) n (m .totals .alerts)) f) t)
+    ∙ ap (reported sourceSv (f .«smp_cnt») (f .«timestamp_us»)) (e ∙ ap (λ (n : ℕ). svBinding (withTotals m (mmsTotalInspected m) (gooseTotalInspected m) n (m .totals .alerts)) f) t)
+
+-- ---- the same with the verdict in place of the result
+
+pub mms-noted :
+    (m : Iec61850Monitor) (f : MmsFrame) (after : Iec61850Monitor) (findings : List Finding) {total : ℕ} {q : Noted}
+    → total ≡ saturated (m .totals .«mms_total_inspected»)
+    → ended after findings ≡ mmsChecks (withTotals m total (gooseTotalInspected m) (svTotalInspected m) (m .totals .alerts)) f
+    → q
+    ≡ notedOf (foldl (reportedNext sourceMms (f .«invoke_id») (f .«timestamp_us»)) (record { result = cleanResult sourceMms; counters = after .totals .alerts }) findings)
+    → (withAlerts after (q .counters) ≡ inspectMms m f .monitor) × (q .verdict ≡ verdictOf (inspectMms m f .result))
+mms-noted m f after findings t e r =
+    let i = mms-inspected m f after findings t e refl in
+    (noted-after after r i, noted-verdict after r i)
+
+pub goose-noted :
+    (m : Iec61850Monitor) (f : GooseFrame) (after : Iec61850Monitor) (findings : List Finding) {total : ℕ} {q : Noted}
+    → total ≡ saturated (m .totals .«goose_total_inspected»)
+    → ended after findings ≡ gooseTest (withTotals m (mmsTotalInspected m) total (svTotalInspected m) (m .totals .alerts)) f
+    → q
+    ≡ notedOf (foldl (reportedNext sourceGoose (f .«st_num») (f .«timestamp_us»)) (record { result = cleanResult sourceGoose; counters = after .totals .alerts }) findings)
+    → (withAlerts after (q .counters) ≡ inspectGoose m f .monitor) × (q .verdict ≡ verdictOf (inspectGoose m f .result))
+goose-noted m f after findings t e r =
+    let i = goose-inspected m f after findings t e refl in
+    (noted-after after r i, noted-verdict after r i)
+
+pub sv-noted :
+    (m : Iec61850Monitor) (f : SvFrame) (after : Iec61850Monitor) (findings : List Finding) {total : ℕ} {q : Noted}
+    → total ≡ saturated (m .totals .«sv_total_inspected»)
+    → ended after findings ≡ svBinding (withTotals m (mmsTotalInspected m) (gooseTotalInspected m) total (m .totals .alerts)) f
+    → q
+    ≡ notedOf (foldl (reportedNext sourceSv (f .«smp_cnt») (f .«timestamp_us»)) (record { result = cleanResult sourceSv; counters = after .totals .alerts }) findings)
+    → (withAlerts after (q .counters) ≡ inspectSv m f .monitor) × (q .verdict ≡ verdictOf (inspectSv m f .result))
+sv-noted m f after findings t e r =
+    let i = sv-inspected m f after findings t e refl in
+    (noted-after after r i, noted-verdict after r i)
 
 -- ---- a raw SV frame, unreadable or read
 

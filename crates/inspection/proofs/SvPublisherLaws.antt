@@ -1,13 +1,16 @@
 -- Laws of what rules tell of an svID and an address: whether one has the svID, and the last place that has the address too.
 use Prim.Native.Nat.{ℕ, _+_}
 use mathlib.Core.Bool.{Bool, true, false, _&&_}
+use mathlib.Core.List.{List}
 use mathlib.Core.Path.{_≡_, refl, _∙_}
 use native.Mathlib.Numerals.{add-one}
 use Rattle.records.specs.declared.search.Found.{Found}
 use Rattle.records.specs.declared.search.Found.the-variants.{At, Nothing}
 use Rattle.records.specs.Search.{lastBelow, isFound}
-use Rattle.records.proofs.Booleans.{answered}
-use Rattle.inspection.specs.SvPublisher.{matchAt}
+use Rattle.records.proofs.Booleans.{and-false, answered}
+use Rattle.inspection.specs.declared.rules.RuleCheck.the-variants.{Rate}
+use Rattle.inspection.specs.InspectSv.{svRuleCheck}
+use Rattle.inspection.specs.SvPublisher.{matchAt, lastFitting}
 
 module _ (named addressed : ℕ → Bool) where
   -- what the first i rules tell
@@ -38,3 +41,10 @@ module _ (named addressed : ℕ → Bool) where
       {i n : ℕ} {registered : Bool} {place : Found} → Compared i registered place → i ≡ n
       → matchAt registered place ≡ matchAt (isFound (lastBelow named n)) (lastBelow (λ j. named j && addressed j) n)
   compared-all t e = rw (t .registered-is, t .place-is, e)
+
+-- without publishers every frame passes, and has no rate
+pub no-publishers :
+    (strict : Bool) (rates addresses octets lens : List ℕ) {count : ℕ} (address : ℕ) (name : List ℕ) (len : ℕ)
+    → count ≡ 0 → Rate 0 ≡ svRuleCheck strict count rates (lastFitting addresses octets lens count address name len)
+unfolding lastBelow
+no-publishers strict rates addresses octets lens address name len z = rw (z, and-false strict)

@@ -16,7 +16,7 @@ use Rattle.records.specs.Ageing.{nextTick, slotFor, newSlot, usedAt}
 use Rattle.records.specs.Name.{validLen, nameOf, padded, sameName, nameStored}
 use Rattle.records.specs.Search.{first, slotOr}
 use Rattle.records.specs.Table.{inUse}
-use Rattle.records.proofs.Booleans.{and-both, answered}
+use Rattle.records.proofs.Booleans.{and-both, answered, cond-yes, cond-no}
 use Rattle.records.proofs.NameLaws.{kept-len, kept-octets, stored-again}
 use Rattle.records.proofs.TableLaws.{found-passes, found-or-below, new-slot-below, new-slot-is}
 use Rattle.inspection.specs.declared.sv_seq.SvSeqTable.{SvSeqTable}
@@ -24,7 +24,7 @@ use Rattle.inspection.specs.declared.sv_seq.SvSeqOutcome.{SvSeqOutcome}
 use Rattle.inspection.specs.declared.sv_seq.SvSeqOutcome.the-variants.{FirstSeen, Replay, ForwardGap, CycleWrap, SuspiciousSmpGap}
 use Rattle.inspection.specs.declared.sv_seq.SvChecked.{SvChecked}
 use Rattle.inspection.specs.declared.sv_seq.SvPlan.{SvPlan}
-use Rattle.inspection.specs.SvSeq.{countOutcome, isReplay, svChecked, svPlan, svKeptChecked}
+use Rattle.inspection.specs.SvSeq.{countOutcome, isReplay, svChecked, svPlan, svKeptChecked, svKeptCheckedIf}
 
 module _ (c n : ℕ) where
   pub count-same : n ≡ c → Replay ≡ countOutcome c n
@@ -128,3 +128,11 @@ pub kept-checked :
     → octets ≡ padded svid (length svid) → len ≡ length svid → svKeptChecked t octets len n ≡ svChecked t svid n
 unfolding svKeptChecked svPlan svChecked
 kept-checked t svid n e l = rw (e, l)
+
+-- a count that the checking does not reach, and one that it reaches
+module _ (t : SvSeqTable) (octets : List ℕ) (len n : ℕ) (reached : Bool) where
+  pub count-not-reached : reached ≡ false → record { table = t; outcome = FirstSeen } ≡ svKeptCheckedIf reached t octets len n
+  count-not-reached e = sym (cond-no _ _ e)
+
+  pub count-reached : {c : SvChecked} → reached ≡ true → c ≡ svKeptChecked t octets len n → c ≡ svKeptCheckedIf reached t octets len n
+  count-reached e k = k ∙ sym (cond-yes _ _ e)

@@ -14,10 +14,12 @@ use Rattle.records.specs.declared.search.Found.the-variants.{At, Nothing}
 use Rattle.records.specs.Ageing.{nextTick, slotFor, usedAt}
 use Rattle.records.specs.Remembered.{after}
 use Rattle.records.specs.Table.{slotOf, valueOf}
-use Rattle.records.proofs.Booleans.{and-false, or-false, answered}
+use Rattle.records.proofs.Booleans.{and-false, or-false, answered, cond-yes, cond-no}
 use Rattle.records.proofs.TableLaws.{target-found, value-found, target-new, value-new, target-below}
 use Rattle.inspection.specs.declared.time_field.TimeTrackers.{TimeTrackers}
 use Rattle.inspection.specs.declared.time_field.TimePlan.{TimePlan}
+use Rattle.inspection.specs.declared.time_field.TimeChecked.{TimeChecked}
+use Rattle.inspection.specs.InspectSv.{clockReached}
 use Rattle.inspection.specs.TimeField.{clocks, hasClock, earlier, clockAlert, timePlan, timeChecked}
 
 module _ (limit keptSeconds keptFraction seconds fraction : ℕ) where
@@ -99,3 +101,11 @@ module _ (t : TimeTrackers) (limit address : ℕ) (pair : ℕ × ℕ) where
         ≡ timeChecked t limit address pair
     unfolding timeChecked timePlan
     plan-carried-out v p u = rw (u, p, ← pair-kept (valueOf clocks t address) pair, answered h v)
+
+  -- a clock that the checking does not reach, none, and one that it reaches
+  module _ (reached : Bool) where
+    pub clock-not-reached : reached ≡ false → record { table = t; alert = false } ≡ clockReached reached t limit address pair
+    clock-not-reached e = sym (cond-no _ _ e)
+
+    pub clock-reached : {c : TimeChecked} → reached ≡ true → c ≡ timeChecked t limit address pair → c ≡ clockReached reached t limit address pair
+    clock-reached e k = k ∙ sym (cond-yes _ _ e)

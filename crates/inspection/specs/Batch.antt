@@ -1,28 +1,13 @@
 -- Many SV frames in one call: the monitor after them, and the verdicts on them.
 use Prim.Native.Nat.{ℕ, zero, suc, _*_, _/_, min}
-use mathlib.Core.Bool.{Bool, true, false}
 use mathlib.Core.List.{List}
 use lib.ListN.{take, drop}
 use Rattle.records.specs.declared.frame.SvFrame.{SvFrame}
-use Rattle.records.specs.declared.result.Pushed.{Pushed}
 use Rattle.records.specs.Name.{octetAt, overwritten}
 use Rattle.records.specs.Verdict.{verdictOf}
 use Rattle.wire.specs.SvRecord.{svFrameOf}
-use Rattle.inspection.specs.declared.batch.Noted.{Noted}
-use Rattle.inspection.specs.declared.report.CheckAlert.{CheckAlert}
-use Rattle.inspection.specs.declared.report.CheckAlert.the-variants.{Nothing, Refusal, Notice}
 use Rattle.inspection.specs.declared.monitor.Iec61850Monitor.{Iec61850Monitor}
 use Rattle.inspection.specs.InspectSv.{inspectSv}
-
--- whether a check found nothing
-abbrev pub isNothing : CheckAlert → Bool
-isNothing Nothing = true
-isNothing (Refusal severity code) = false
-isNothing (Notice severity code) = false
-
--- the verdict of a result, and the counters
-abbrev pub notedOf : Pushed → Noted
-notedOf p = record { verdict = verdictOf (p .result); counters = p .counters }
 
 -- how many frames are inspected: whole records of 160 octets, with 8 octets for the verdict of each
 unfoldable pub batchCount : ℕ → ℕ → ℕ

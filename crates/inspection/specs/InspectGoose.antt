@@ -21,7 +21,7 @@ use Rattle.inspection.specs.declared.time_field.TimeChecked.{TimeChecked
 use Rattle.inspection.specs.Address.{addressOf}
 use Rattle.inspection.specs.GoosePublisher.{goosePublisher}
 use Rattle.inspection.specs.GooseSeq.{controlBlock, gooseKey, gooseTimed, gooseChecked, retxChecked}
-use Rattle.inspection.specs.Monitor.{countedGoose, withReservations, withClocks, withGooseStreams}
+use Rattle.inspection.specs.Monitor.{mmsTotalInspected, svTotalInspected, withTotals, countedGoose, withReservations, withClocks, withGooseStreams}
 use Rattle.inspection.specs.Report.{Finding, Checked, refusal, notice, clockFindings, ended, reported}
 use Rattle.inspection.specs.Reservation.{cbChecked}
 use Rattle.inspection.specs.TimeField.{timeChecked}
@@ -95,3 +95,9 @@ withGooseParts m settings publishers reservations clocks streams =
       «cb_reservations» = reservations;
       totals = m .totals;
     }
+
+-- the same with the counts of GOOSE frames and of alerts
+abbrev pub gooseMonitorOf : Iec61850Monitor → Settings → GoosePublishers → CbReservations → TimeTrackers → GooseSeqTable → ℕ → ℕ → ℕ → Iec61850Monitor
+gooseMonitorOf m settings publishers reservations clocks streams total next alerts =
+    withTotals (withGooseParts m settings publishers reservations clocks streams) (mmsTotalInspected m) total (svTotalInspected m)
+    (record { «next_alert_id» = next; «total_alerts» = alerts })

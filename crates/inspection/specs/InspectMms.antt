@@ -23,7 +23,7 @@ use Rattle.inspection.specs.declared.rules.RuleCheck.{RuleCheck}
 use Rattle.inspection.specs.declared.rules.RuleCheck.the-variants.{Refused, Rate}
 use Rattle.inspection.specs.declared.settings.Settings.{Settings}
 use Rattle.inspection.specs.MmsRule.{hasBit, firstRule}
-use Rattle.inspection.specs.Monitor.{countedMms, withRates, withReservations}
+use Rattle.inspection.specs.Monitor.{gooseTotalInspected, svTotalInspected, withTotals, countedMms, withRates, withReservations}
 use Rattle.inspection.specs.Rate.{rateChecked}
 use Rattle.inspection.specs.Report.{Finding, Checked, refusal, notice, ended, permitted, reported}
 use Rattle.inspection.specs.Reservation.{reserved, released}
@@ -99,3 +99,9 @@ withMmsParts m settings rules rates reservations =
       «cb_reservations» = reservations;
       totals = m .totals;
     }
+
+-- the same with the counts of MMS frames and of alerts
+abbrev pub mmsMonitorOf : Iec61850Monitor → Settings → MmsRules → RateBuckets → CbReservations → ℕ → ℕ → ℕ → Iec61850Monitor
+mmsMonitorOf m settings rules rates reservations total next alerts =
+    withTotals (withMmsParts m settings rules rates reservations) total (gooseTotalInspected m) (svTotalInspected m)
+    (record { «next_alert_id» = next; «total_alerts» = alerts })

@@ -17,6 +17,4 @@ pub mod InspectSv
 pub mod Batch
 pub mod Calls
 pub mod CallTheorems
-pub mod Demand3
-pub mod Demand3Mixed
 pub mod Points

@@ -9,11 +9,13 @@ use Rattle.records.specs.declared.alert.AlertCode.the-variants.{TimeSyncSpoofin
 use Rattle.records.specs.declared.result.InspectResult.{InspectResult}
 use Rattle.records.specs.declared.result.Pushed.{Pushed}
 use Rattle.records.specs.Result.{cleanResult, pushed}
+use Rattle.records.specs.Verdict.{verdictOf}
 use Rattle.inspection.specs.declared.monitor.Iec61850Monitor.{Iec61850Monitor}
 use Rattle.inspection.specs.declared.monitor.Inspected.{Inspected}
 use Rattle.inspection.specs.declared.report.CheckAlert.{CheckAlert}
 use Rattle.inspection.specs.declared.report.CheckAlert.the-variants.{Nothing, Refusal, Notice}
 use Rattle.inspection.specs.declared.report.CheckAlerts.{CheckAlerts}
+use Rattle.inspection.specs.declared.report.Noted.{Noted}
 use Rattle.inspection.specs.declared.rules.RuleCheck.{RuleCheck}
 use Rattle.inspection.specs.declared.rules.RuleCheck.the-variants.{Refused, Rate}
 use Rattle.inspection.specs.Monitor.{withAlerts}
@@ -49,6 +51,11 @@ ended m findings = record { monitor = m; findings = findings }
 abbrev pub permitted : Iec61850Monitor → (ℕ → Checked) → RuleCheck → Checked
 permitted m next (Refused severity code) = ended m (refusal severity code ∷ [])
 permitted m next (Rate rate) = next rate
+
+-- whether the rules let a frame pass
+abbrev pub permits : RuleCheck → Bool
+permits (Refused severity code) = false
+permits (Rate rate) = true
 
 -- a result with this allowed flag
 abbrev pub withAllowed : InspectResult → Bool → InspectResult
@@ -87,3 +94,17 @@ findingsOf (Notice severity code) = notice severity code ∷ []
 -- the alerts of three answers in their order
 abbrev pub alertsOf : CheckAlerts → List Finding
 alertsOf a = findingsOf (a .first) ++ (findingsOf (a .second) ++ findingsOf (a .third))
+
+-- whether a check found nothing
+abbrev pub isNothing : CheckAlert → Bool
+isNothing Nothing = true
+isNothing (Refusal severity code) = false
+isNothing (Notice severity code) = false
+
+-- whether three checks found nothing
+abbrev pub noneFound : CheckAlert → CheckAlert → CheckAlert → Bool
+noneFound first second third = isNothing first && (isNothing second && isNothing third)
+
+-- the verdict of a result, and the counters
+abbrev pub notedOf : Pushed → Noted
+notedOf p = record { verdict = verdictOf (p .result); counters = p .counters }

@@ -148,13 +148,7 @@ cbTableOf octets lens kinds owners bound addresses active =
       active = active;
     }
 
--- the use of a control block, from the name as it is kept: 64 octets, zeros behind its end, and its length
-unfoldable pub cbKeptChecked : CbReservations → List ℕ → ℕ → Bool → ℕ → CbChecked
-cbKeptChecked r octets len isGoose address =
-    cond (eqb len 0) (record { table = r; hijack = false })
-    (usedBy r address (first (reservesAt (r .«cb_ref» .octets) (r .«cb_ref» .lens) (r .«is_goose») (r .active) octets len isGoose)))
-
--- a SelectControl's slot taken, if there is one, from the name as it is kept
+-- a SelectControl's slot taken, if there is one, from the name as it is kept: 64 octets, zeros behind its end, and its length
 abbrev pub cbKeptReservedAt : CbReservations → List ℕ → ℕ → Bool → ℕ → Found → Reserved
 cbKeptReservedAt r octets len isGoose client (At i) =
     record {

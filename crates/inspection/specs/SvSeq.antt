@@ -122,3 +122,7 @@ svKeptChecked t octets len n = carriedOut (svPlan t octets len n)
           };
           outcome = p .outcome;
         }
+
+-- the count check where the checking reaches it; a frame that it does not reach is as one first seen, which alerts nothing
+abbrev pub svKeptCheckedIf : Bool → SvSeqTable → List ℕ → ℕ → ℕ → SvChecked
+svKeptCheckedIf reached t octets len n = cond reached (svKeptChecked t octets len n) (record { table = t; outcome = FirstSeen })

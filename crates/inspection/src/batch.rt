@@ -1,26 +1,32 @@
 // Many SV frames in one call, for hosts: the monitor is copied once, and the frames are inspected one after the other in columns of
 // its own. Each frame is a record of 160 octets (wire::sv_record), each verdict one of 8 (records::verdict).
-ghost use mathlib.Core.Bool.{_&&_};
-ghost use mathlib.Core.List.{foldl};
 ghost use mathlib.Core.Path.{_≡_};
 ghost use lib.ListN.{length};
-ghost use Rattle.records.specs.Result.{cleanResult};
-ghost use Rattle.inspection.specs.Batch.{isNothing, notedOf, batchCount, svAfter, svVerdicts};
-ghost use Rattle.inspection.specs.Report.{reportedNext, alertsOf};
-use crate::inspect_sv::sv_binding;
+ghost use Rattle.inspection.specs.Batch.{batchCount, svAfter, svVerdicts};
+use crate::address::address_of;
+use crate::inspect_sv::count_alert;
+use crate::inspect_sv::first_alert;
+use crate::inspect_sv::goes_on;
+use crate::inspect_sv::rate_alert;
+use crate::inspect_sv::rate_reached;
+use crate::inspect_sv::sv_clock_check;
+use crate::inspect_sv::sv_hijack_check;
+use crate::inspect_sv::sv_rule;
 use crate::monitor::Iec61850Monitor;
-use crate::report::CheckAlert;
+use crate::report::CLEAN_VERDICT;
 use crate::report::CheckAlerts;
-use crate::report::push_alerts;
+use crate::report::none_found;
+use crate::report::verdict_on;
 use crate::sv_seq::SvSeqTable;
+use crate::sv_seq::check_sv_seq_in;
 use crate::time_field::TimeTrackers;
 use records::ageing::Ageing;
 use records::alert::SOURCE_IEC61850_SV;
 use records::counter::saturating_increment;
 use records::name::Names;
-use records::result::AlertCounters;
+use records::name::padded;
+use records::name::valid_len;
 use records::verdict::put_verdict;
-use records::verdict::verdict_of;
 use wire::number::least;
 use wire::sv_record::sv_frame_of;
 
@@ -29,63 +35,6 @@ fn batch_count(frames_len: usize, verdicts_len: usize) -> usize
     ensures { λ r. ⌜ r ≡ batchCount «frames_len» «verdicts_len» ⌝ }
 {
     least(frames_len / 160, verdicts_len / 8)
-}
-
-// The verdict on a frame, and the counters after its alerts.
-pub struct Noted {
-    pub verdict: [u8; 8],
-    pub counters: AlertCounters,
-}
-
-// Whether a check found nothing.
-fn is_nothing(alert: CheckAlert) -> bool
-    ensures { λ r. ⌜ r ≡ isNothing alert ⌝ }
-{
-    match alert {
-        CheckAlert::Nothing => true,
-        CheckAlert::Refusal(_, _) => false,
-        CheckAlert::Notice(_, _) => false,
-    }
-}
-
-// Whether the checks found nothing.
-fn none_found(alerts: CheckAlerts) -> bool
-    ensures { λ r. ⌜ r ≡ (isNothing (alerts .first) && (isNothing (alerts .second) && isNothing (alerts .third))) ⌝ }
-{
-    let first = alerts.first;
-    let second = alerts.second;
-    let third = alerts.third;
-    if is_nothing(first) {
-        if is_nothing(second) {
-            return is_nothing(third);
-        }
-    }
-    false
-}
-
-// The verdict that reports what the checks found. Without an alert no result is made.
-fn verdict_on(
-    counters: AlertCounters,
-    alerts: CheckAlerts,
-    source_type: u8,
-    source_id: u32,
-    ts_us: u64,
-) -> Noted
-    ensures { λ r. ⌜ r ≡ notedOf (foldl (reportedNext «source_type» «source_id» «ts_us») (record { result = cleanResult «source_type»; counters = counters }) (alertsOf alerts)) ⌝ }
-{
-    if none_found(alerts) {
-        return Noted {
-            verdict: [1, 0, 0, 0, 0, 0, 0, 0],
-            counters: counters,
-        };
-    }
-    let pushed = push_alerts(counters, alerts, source_type, source_id, ts_us);
-    let result = pushed.result;
-    let counted = pushed.counters;
-    Noted {
-        verdict: verdict_of(result),
-        counters: counted,
-    }
 }
 
 impl Iec61850Monitor {
@@ -117,42 +66,86 @@ impl Iec61850Monitor {
         let mut i: usize = 0;
         while i < n {
             let frame = sv_frame_of(&frames[i * 160..i * 160 + 160]);
-            let alerts = sv_binding(
-                frame,
-                settings,
+            let mac = frame.src_mac;
+            let src_mac = address_of(mac);
+            let svid_len = valid_len(frame.svid_len);
+            let octets = frame.svid;
+            let svid = padded(&octets, svid_len);
+            let rule = sv_rule(
                 &self.rules.sv.src_mac,
                 &self.rules.sv.svid.octets,
                 &self.rules.sv.svid.lens,
                 rule_rates,
                 self.rules.sv.count,
+                settings.strict_mode,
+                src_mac,
+                &svid,
+                svid_len,
+            );
+            let permitted = rule.permits();
+            let dataset_ref = frame.dataset_ref;
+            let hijack = sv_hijack_check(
+                permitted,
                 &self.cb_reservations.cb_ref.octets,
                 &self.cb_reservations.cb_ref.lens,
                 &self.cb_reservations.is_goose,
                 &self.cb_reservations.active,
                 &mut cb_bound,
                 &mut cb_macs,
+                dataset_ref,
+                frame.dataset_ref_len,
+                src_mac,
+            );
+            let reached = goes_on(permitted, hijack);
+            let clock = sv_clock_check(
+                reached,
                 &mut clock_macs,
                 &mut clock_seconds,
                 &mut clock_fractions,
                 &mut clock_active,
                 &mut clock_used,
                 &mut clock_tick,
+                src_mac,
+                frame.t_seconds_since_epoch,
+                frame.t_fraction_of_second,
+                settings.time_max_forward_jump_s,
+            );
+            let outcome = check_sv_seq_in(
+                reached,
                 &mut svids,
                 &mut svid_lens,
                 &mut counts,
                 &mut active,
                 &mut used,
                 &mut tick,
+                &svid,
+                svid_len,
+                frame.smp_cnt,
             );
-            let noted = verdict_on(
-                counters,
-                alerts,
-                SOURCE_IEC61850_SV,
-                frame.smp_cnt as u32,
-                frame.timestamp_us,
+            let first = first_alert(rule, hijack, clock);
+            let second = count_alert(outcome, settings.sv_max_smp_cnt_gap);
+            let third = rate_alert(
+                outcome.is_replay(),
+                frame.smp_rate,
+                rate_reached(rule, hijack),
             );
-            counters = noted.counters;
-            let verdict = noted.verdict;
+            let mut verdict = CLEAN_VERDICT;
+            if !none_found(first, second, third) {
+                let alerts = CheckAlerts {
+                    first: first,
+                    second: second,
+                    third: third,
+                };
+                let noted = verdict_on(
+                    counters,
+                    alerts,
+                    SOURCE_IEC61850_SV,
+                    frame.smp_cnt as u32,
+                    frame.timestamp_us,
+                );
+                counters = noted.counters;
+                verdict = noted.verdict;
+            }
             put_verdict(verdicts, i * 8, verdict);
             total = saturating_increment(total);
             i += 1;

@@ -5,12 +5,11 @@ ghost use mathlib.Core.Path.{_≡_};
 ghost use mathlib.Core.Bool.{_&&_, not};
 ghost use mathlib.Core.List.{List};
 ghost use lib.Dec.{ltb};
-ghost use lib.ListN.{length};
 ghost use Rattle.records.specs.Hash.{fnv1a};
-ghost use Rattle.records.specs.Name.{nameOf, padded};
+ghost use Rattle.records.specs.Name.{nameOf};
 ghost use Rattle.records.specs.Search.{isFound};
-ghost use Rattle.inspection.specs.GooseSeq.{controlBlock, gooseTableOf};
-ghost use Rattle.inspection.specs.InspectGoose.{streamFindings, gooseTimeField, gooseReservation, gooseTest, inspectGoose, withGooseParts};
+ghost use Rattle.inspection.specs.GooseSeq.{gooseTableOf};
+ghost use Rattle.inspection.specs.InspectGoose.{streamFindings, gooseTimeField, gooseReservation, gooseTest, inspectGoose, withGooseParts, gooseMonitorOf};
 ghost use Rattle.inspection.specs.Report.{ended, findingsOf, alertsOf};
 ghost use Rattle.inspection.specs.Reservation.{cbTableOf};
 ghost use Rattle.inspection.specs.TimeField.{clockTableOf};
@@ -41,6 +40,8 @@ use records::frame::GooseFrame;
 use records::hash::fnv1a_32;
 use records::name::padded;
 use records::name::valid_len;
+use records::result::AlertCounters;
+use records::result::InspectResult;
 use records::search::Found;
 
 // A replay refuses; a retransmission outside tolerance does not.
@@ -166,13 +167,12 @@ fn goose_reservation<'a>(
     active: &'a mut [bool; 16],
     used: &'a mut [u32; 16],
     tick: &'a mut u32,
-    name: &'a [u8; 64],
-    len: u8,
 ) -> CheckAlerts
     ensures { λ r.
-        ⌜ ((m : Iec61850Monitor) (publishers : GoosePublishers) (owners : List ℕ) → now (name .entry) ≡ padded (controlBlock f) (length (controlBlock f)) → len ≡ length (controlBlock f) → ended (withGooseParts m settings publishers (cbTableOf (now («cb_refs» .entry)) (now («cb_lens» .entry)) (now («cb_kinds» .entry)) owners (now («cb_bound» .exit)) (now («cb_macs» .exit)) (now («cb_active» .entry))) (clockTableOf (now («clock_macs» .exit)) (now («clock_seconds» .exit)) (now («clock_fractions» .exit)) (now («clock_active» .exit)) (now («clock_used» .exit)) (now («clock_tick» .exit))) (gooseTableOf (now («src_macs» .exit)) (now (hashes .exit)) (now («last_st_num» .exit)) (now («last_sq_num» .exit)) (now («last_seen_us» .exit)) (now (active .exit)) (now (used .exit)) (now (tick .exit)))) (alertsOf r) ≡ gooseReservation (withGooseParts m settings publishers (cbTableOf (now («cb_refs» .entry)) (now («cb_lens» .entry)) (now («cb_kinds» .entry)) owners (now («cb_bound» .entry)) (now («cb_macs» .entry)) (now («cb_active» .entry))) (clockTableOf (now («clock_macs» .entry)) (now («clock_seconds» .entry)) (now («clock_fractions» .entry)) (now («clock_active» .entry)) (now («clock_used» .entry)) (now («clock_tick» .entry))) (gooseTableOf (now («src_macs» .entry)) (now (hashes .entry)) (now («last_st_num» .entry)) (now («last_sq_num» .entry)) (now («last_seen_us» .entry)) (now (active .entry)) (now (used .entry)) (now (tick .entry)))) f) ⌝ }
+        ⌜ ((m : Iec61850Monitor) (publishers : GoosePublishers) (owners : List ℕ) → ended (withGooseParts m settings publishers (cbTableOf (now («cb_refs» .entry)) (now («cb_lens» .entry)) (now («cb_kinds» .entry)) owners (now («cb_bound» .exit)) (now («cb_macs» .exit)) (now («cb_active» .entry))) (clockTableOf (now («clock_macs» .exit)) (now («clock_seconds» .exit)) (now («clock_fractions» .exit)) (now («clock_active» .exit)) (now («clock_used» .exit)) (now («clock_tick» .exit))) (gooseTableOf (now («src_macs» .exit)) (now (hashes .exit)) (now («last_st_num» .exit)) (now («last_sq_num» .exit)) (now («last_seen_us» .exit)) (now (active .exit)) (now (used .exit)) (now (tick .exit)))) (alertsOf r) ≡ gooseReservation (withGooseParts m settings publishers (cbTableOf (now («cb_refs» .entry)) (now («cb_lens» .entry)) (now («cb_kinds» .entry)) owners (now («cb_bound» .entry)) (now («cb_macs» .entry)) (now («cb_active» .entry))) (clockTableOf (now («clock_macs» .entry)) (now («clock_seconds» .entry)) (now («clock_fractions» .entry)) (now («clock_active» .entry)) (now («clock_used» .entry)) (now («clock_tick» .entry))) (gooseTableOf (now («src_macs» .entry)) (now (hashes .entry)) (now («last_st_num» .entry)) (now («last_sq_num» .entry)) (now («last_seen_us» .entry)) (now (active .entry)) (now (used .entry)) (now (tick .entry)))) f) ⌝ }
 {
     let mac = f.src_mac;
+    let name = f.go_cb_ref;
     if cb_hijack_check_in(
         cb_refs,
         cb_lens,
@@ -181,7 +181,7 @@ fn goose_reservation<'a>(
         cb_bound,
         cb_macs,
         name,
-        len,
+        f.go_cb_ref_len,
         true,
         address_of(mac),
     ) {
@@ -290,9 +290,88 @@ pub fn goose_checks<'a>(
         active,
         used,
         tick,
-        &name,
-        len,
     )
+}
+
+// The inspection of a GOOSE frame in the columns of a monitor.
+pub fn inspect_goose_in<'a>(
+    frame: GooseFrame,
+    settings: Settings,
+    rule_macs: &'a [u64; 16],
+    rule_refs: &'a [u8; 1024],
+    rule_lens: &'a [u8; 16],
+    rule_count: u8,
+    cb_refs: &'a [u8; 1024],
+    cb_lens: &'a [u8; 16],
+    cb_kinds: &'a [bool; 16],
+    cb_active: &'a [bool; 16],
+    cb_bound: &'a mut [bool; 16],
+    cb_macs: &'a mut [u64; 16],
+    clock_macs: &'a mut [u64; 16],
+    clock_seconds: &'a mut [u32; 16],
+    clock_fractions: &'a mut [u32; 16],
+    clock_active: &'a mut [bool; 16],
+    clock_used: &'a mut [u32; 16],
+    clock_tick: &'a mut u32,
+    src_macs: &'a mut [u64; 16],
+    hashes: &'a mut [u32; 16],
+    last_st_num: &'a mut [u32; 16],
+    last_sq_num: &'a mut [u32; 16],
+    last_seen_us: &'a mut [u64; 16],
+    active: &'a mut [bool; 16],
+    used: &'a mut [u32; 16],
+    tick: &'a mut u32,
+    total: &'a mut u64,
+    next_alert_id: &'a mut u64,
+    total_alerts: &'a mut u64,
+) -> InspectResult
+    ensures { λ r.
+        ⌜ ((m : Iec61850Monitor) → record { monitor = (gooseMonitorOf m settings (record { «src_mac» = now («rule_macs» .entry); «go_cb_ref» = record { octets = now («rule_refs» .entry); lens = now («rule_lens» .entry) }; count = «rule_count» }) (cbTableOf (now («cb_refs» .entry)) (now («cb_lens» .entry)) (now («cb_kinds» .entry)) (m .«cb_reservations» .«owner_client_id») (now («cb_bound» .exit)) (now («cb_macs» .exit)) (now («cb_active» .entry))) (clockTableOf (now («clock_macs» .exit)) (now («clock_seconds» .exit)) (now («clock_fractions» .exit)) (now («clock_active» .exit)) (now («clock_used» .exit)) (now («clock_tick» .exit))) (gooseTableOf (now («src_macs» .exit)) (now (hashes .exit)) (now («last_st_num» .exit)) (now («last_sq_num» .exit)) (now («last_seen_us» .exit)) (now (active .exit)) (now (used .exit)) (now (tick .exit))) (now (total .exit)) (now («next_alert_id» .exit)) (now («total_alerts» .exit))); result = r } ≡ inspectGoose (gooseMonitorOf m settings (record { «src_mac» = now («rule_macs» .entry); «go_cb_ref» = record { octets = now («rule_refs» .entry); lens = now («rule_lens» .entry) }; count = «rule_count» }) (cbTableOf (now («cb_refs» .entry)) (now («cb_lens» .entry)) (now («cb_kinds» .entry)) (m .«cb_reservations» .«owner_client_id») (now («cb_bound» .entry)) (now («cb_macs» .entry)) (now («cb_active» .entry))) (clockTableOf (now («clock_macs» .entry)) (now («clock_seconds» .entry)) (now («clock_fractions» .entry)) (now («clock_active» .entry)) (now («clock_used» .entry)) (now («clock_tick» .entry))) (gooseTableOf (now («src_macs» .entry)) (now (hashes .entry)) (now («last_st_num» .entry)) (now («last_sq_num» .entry)) (now («last_seen_us» .entry)) (now (active .entry)) (now (used .entry)) (now (tick .entry))) (now (total .entry)) (now («next_alert_id» .entry)) (now («total_alerts» .entry))) frame) ⌝ }
+{
+    let alerts = goose_checks(
+        frame,
+        settings,
+        rule_macs,
+        rule_refs,
+        rule_lens,
+        rule_count,
+        cb_refs,
+        cb_lens,
+        cb_kinds,
+        cb_active,
+        cb_bound,
+        cb_macs,
+        clock_macs,
+        clock_seconds,
+        clock_fractions,
+        clock_active,
+        clock_used,
+        clock_tick,
+        src_macs,
+        hashes,
+        last_st_num,
+        last_sq_num,
+        last_seen_us,
+        active,
+        used,
+        tick,
+    );
+    let counters = AlertCounters {
+        next_alert_id: *next_alert_id,
+        total_alerts: *total_alerts,
+    };
+    let pushed = push_alerts(
+        counters,
+        alerts,
+        SOURCE_IEC61850_GOOSE,
+        frame.st_num,
+        frame.timestamp_us,
+    );
+    let counted = pushed.counters;
+    *total = saturating_increment(*total);
+    *next_alert_id = counted.next_alert_id;
+    *total_alerts = counted.total_alerts;
+    pushed.result
 }
 
 impl Iec61850Monitor {
@@ -317,7 +396,10 @@ impl Iec61850Monitor {
         let mut active = self.goose_seq.ageing.active;
         let mut used = self.goose_seq.ageing.last_used;
         let mut tick = self.goose_seq.ageing.tick;
-        let alerts = goose_checks(
+        let mut total = self.totals.goose_total_inspected;
+        let mut next_alert_id = self.totals.alerts.next_alert_id;
+        let mut total_alerts = self.totals.alerts.total_alerts;
+        let result = inspect_goose_in(
             frame,
             settings,
             &self.rules.goose.src_mac,
@@ -344,19 +426,17 @@ impl Iec61850Monitor {
             &mut active,
             &mut used,
             &mut tick,
+            &mut total,
+            &mut next_alert_id,
+            &mut total_alerts,
         );
         let mut totals = self.totals;
-        let counters = totals.alerts;
-        let pushed = push_alerts(
-            counters,
-            alerts,
-            SOURCE_IEC61850_GOOSE,
-            frame.st_num,
-            frame.timestamp_us,
-        );
-        let counted = pushed.counters;
-        totals.goose_total_inspected = saturating_increment(totals.goose_total_inspected);
-        totals.alerts = counted;
+        let counters = AlertCounters {
+            next_alert_id: next_alert_id,
+            total_alerts: total_alerts,
+        };
+        totals.goose_total_inspected = total;
+        totals.alerts = counters;
         let mut reservations = self.cb_reservations;
         reservations.bound = cb_bound;
         reservations.bound_src_mac = cb_macs;
@@ -387,7 +467,6 @@ impl Iec61850Monitor {
         out.time_trackers = clocks;
         out.goose_seq = streams;
         out.totals = totals;
-        let result = pushed.result;
         Inspected {
             monitor: out,
             result: result,

@@ -6,7 +6,7 @@ ghost use mathlib.Core.Path.{_≡_};
 ghost use mathlib.Core.Bool.{Bool, _&&_, _||_, not};
 ghost use mathlib.Core.List.{List};
 ghost use lib.Dec.{eqb, ltb};
-ghost use Rattle.inspection.specs.InspectMms.{domainName, fullFindings, mmsReserved, mmsControl, mmsRate, mmsRule, mmsMask, mmsChecks, inspectMms, withMmsParts};
+ghost use Rattle.inspection.specs.InspectMms.{domainName, fullFindings, mmsReserved, mmsControl, mmsRate, mmsRule, mmsMask, mmsChecks, inspectMms, withMmsParts, mmsMonitorOf};
 ghost use Rattle.inspection.specs.MmsRule.{hasBit};
 ghost use Rattle.inspection.specs.Monitor.{withRates, withReservations};
 ghost use Rattle.inspection.specs.Rate.{bucketTableOf};
@@ -38,6 +38,8 @@ use records::frame::MmsFrame;
 use records::name::Names;
 use records::name::padded;
 use records::name::valid_len;
+use records::result::AlertCounters;
+use records::result::InspectResult;
 use records::search::Found;
 
 // Whether a mask refuses a raw number; a mask of 0 refuses none.
@@ -315,6 +317,69 @@ pub fn mms_checks<'a>(
     }
 }
 
+// The inspection of an MMS frame in the columns of a monitor.
+pub fn inspect_mms_in<'a>(
+    frame: MmsFrame,
+    settings: Settings,
+    rules: MmsRules,
+    keys: &'a mut [u64; 16],
+    tokens: &'a mut [u16; 16],
+    capacity: &'a mut [u16; 16],
+    last_refill_us: &'a mut [u64; 16],
+    active: &'a mut [bool; 16],
+    used: &'a mut [u32; 16],
+    tick: &'a mut u32,
+    cb_refs: &'a mut [u8; 1024],
+    cb_lens: &'a mut [u8; 16],
+    cb_kinds: &'a mut [bool; 16],
+    cb_owners: &'a mut [u32; 16],
+    cb_bound: &'a mut [bool; 16],
+    cb_macs: &'a mut [u64; 16],
+    cb_active: &'a mut [bool; 16],
+    total: &'a mut u64,
+    next_alert_id: &'a mut u64,
+    total_alerts: &'a mut u64,
+) -> InspectResult
+    ensures { λ r.
+        ⌜ ((m : Iec61850Monitor) → record { monitor = (mmsMonitorOf m settings rules (bucketTableOf (now (keys .exit)) (now (tokens .exit)) (now (capacity .exit)) (now («last_refill_us» .exit)) (now (active .exit)) (now (used .exit)) (now (tick .exit))) (cbTableOf (now («cb_refs» .exit)) (now («cb_lens» .exit)) (now («cb_kinds» .exit)) (now («cb_owners» .exit)) (now («cb_bound» .exit)) (now («cb_macs» .exit)) (now («cb_active» .exit))) (now (total .exit)) (now («next_alert_id» .exit)) (now («total_alerts» .exit))); result = r } ≡ inspectMms (mmsMonitorOf m settings rules (bucketTableOf (now (keys .entry)) (now (tokens .entry)) (now (capacity .entry)) (now («last_refill_us» .entry)) (now (active .entry)) (now (used .entry)) (now (tick .entry))) (cbTableOf (now («cb_refs» .entry)) (now («cb_lens» .entry)) (now («cb_kinds» .entry)) (now («cb_owners» .entry)) (now («cb_bound» .entry)) (now («cb_macs» .entry)) (now («cb_active» .entry))) (now (total .entry)) (now («next_alert_id» .entry)) (now («total_alerts» .entry))) frame) ⌝ }
+{
+    let alerts = mms_checks(
+        frame,
+        settings,
+        rules,
+        keys,
+        tokens,
+        capacity,
+        last_refill_us,
+        active,
+        used,
+        tick,
+        cb_refs,
+        cb_lens,
+        cb_kinds,
+        cb_owners,
+        cb_bound,
+        cb_macs,
+        cb_active,
+    );
+    let counters = AlertCounters {
+        next_alert_id: *next_alert_id,
+        total_alerts: *total_alerts,
+    };
+    let pushed = push_alerts(
+        counters,
+        alerts,
+        SOURCE_IEC61850_MMS,
+        frame.invoke_id,
+        frame.timestamp_us,
+    );
+    let counted = pushed.counters;
+    *total = saturating_increment(*total);
+    *next_alert_id = counted.next_alert_id;
+    *total_alerts = counted.total_alerts;
+    pushed.result
+}
+
 impl Iec61850Monitor {
     // The monitor after an MMS frame, and the result.
     pub fn inspect_mms(self, frame: MmsFrame) -> Inspected
@@ -336,7 +401,10 @@ impl Iec61850Monitor {
         let mut cb_bound = self.cb_reservations.bound;
         let mut cb_macs = self.cb_reservations.bound_src_mac;
         let mut cb_active = self.cb_reservations.active;
-        let alerts = mms_checks(
+        let mut total = self.totals.mms_total_inspected;
+        let mut next_alert_id = self.totals.alerts.next_alert_id;
+        let mut total_alerts = self.totals.alerts.total_alerts;
+        let result = inspect_mms_in(
             frame,
             settings,
             rules,
@@ -354,19 +422,17 @@ impl Iec61850Monitor {
             &mut cb_bound,
             &mut cb_macs,
             &mut cb_active,
+            &mut total,
+            &mut next_alert_id,
+            &mut total_alerts,
         );
         let mut totals = self.totals;
-        let counters = totals.alerts;
-        let pushed = push_alerts(
-            counters,
-            alerts,
-            SOURCE_IEC61850_MMS,
-            frame.invoke_id,
-            frame.timestamp_us,
-        );
-        let counted = pushed.counters;
-        totals.mms_total_inspected = saturating_increment(self.totals.mms_total_inspected);
-        totals.alerts = counted;
+        let counters = AlertCounters {
+            next_alert_id: next_alert_id,
+            total_alerts: total_alerts,
+        };
+        totals.mms_total_inspected = total;
+        totals.alerts = counters;
         let buckets = RateBuckets {
             key: keys,
             tokens: tokens,
@@ -393,7 +459,6 @@ impl Iec61850Monitor {
         out.rate_buckets = buckets;
         out.cb_reservations = reservations;
         out.totals = totals;
-        let result = pushed.result;
         Inspected {
             monitor: out,
             result: result,

@@ -1,14 +1,15 @@
 // The inspection of a sampled-values frame, carried over from industrial/iec61850-monitor/src/lib.rs of craton-shield
 // a31d888527 (Apache-2.0) and changed: the checks in stages, over lent columns; the alerts added at the end.
+ghost use Prim.Native.Nat.{ℕ};
 ghost use mathlib.Core.Path.{_≡_};
-ghost use mathlib.Core.Bool.{cond};
-ghost use mathlib.Core.List.{[]};
-ghost use lib.ListN.{length};
-ghost use Rattle.records.specs.Name.{padded};
-ghost use Rattle.inspection.specs.InspectSv.{rateFindings, countFindings, svTimeField, svReservation, svRuleCheck, svBinding, inspectSv, inspectRawSv, withSvParts};
+ghost use mathlib.Core.Bool.{_&&_, not, cond};
+ghost use mathlib.Core.List.{List, []};
+ghost use Rattle.records.specs.Name.{nameOf};
+ghost use Rattle.inspection.specs.InspectSv.{rateFindings, countFindings, svRuleCheck, svBinding, inspectSv, inspectRawSv, withSvParts, dataSetUsed, clockReached, firstFindings, rateReached, svMonitorOf};
 ghost use Rattle.inspection.specs.Report.{ended, findingsOf, alertsOf};
 ghost use Rattle.inspection.specs.Reservation.{cbTableOf};
-ghost use Rattle.inspection.specs.SvSeq.{svKey, svTableOf};
+ghost use Rattle.inspection.specs.SvPublisher.{lastFitting};
+ghost use Rattle.inspection.specs.SvSeq.{svTableOf};
 ghost use Rattle.inspection.specs.TimeField.{clockTableOf};
 use crate::address::address_of;
 use crate::monitor::Iec61850Monitor;
@@ -18,7 +19,6 @@ use crate::report::CheckAlert;
 use crate::report::CheckAlerts;
 use crate::report::clock_alert;
 use crate::report::push_alerts;
-use crate::report::refused;
 use crate::reservation::cb_hijack_check_in;
 use crate::rules::RuleCheck;
 use crate::settings::Settings;
@@ -29,6 +29,7 @@ use crate::sv_seq::SvSeqTable;
 use crate::sv_seq::check_sv_seq_in;
 use crate::time_field::TimeTrackers;
 use crate::time_field::check_time_field_in;
+use crate::time_field::has_clock;
 use records::ageing::Ageing;
 use records::alert::AlertCode;
 use records::alert::AlertSeverity;
@@ -38,6 +39,7 @@ use records::frame::SvFrame;
 use records::name::Names;
 use records::name::padded;
 use records::name::valid_len;
+use records::result::AlertCounters;
 use records::result::InspectResult;
 use wire::sv::Parsed;
 use wire::sv::parse_sv;
@@ -66,7 +68,7 @@ fn sv_rule_check(found: PublisherMatch, strict: bool, count: u8, rates: [u16; 16
 }
 
 // A replay refuses, and so does a gap above a nonzero limit; a suspicious count does not.
-fn count_alert(outcome: SvSeqOutcome, limit: u16) -> CheckAlert
+pub fn count_alert(outcome: SvSeqOutcome, limit: u16) -> CheckAlert
     ensures { λ r. ⌜ findingsOf r ≡ countFindings limit [] outcome ⌝ }
 {
     match outcome {
@@ -86,7 +88,7 @@ fn count_alert(outcome: SvSeqOutcome, limit: u16) -> CheckAlert
 }
 
 // The rate is not compared after a replay, nor where the frame or the rule has none.
-fn rate_alert(replay: bool, frame_rate: u16, rate: u16) -> CheckAlert
+pub fn rate_alert(replay: bool, frame_rate: u16, rate: u16) -> CheckAlert
     ensures { λ r. ⌜ findingsOf r ≡ cond replay [] (rateFindings «frame_rate» rate) ⌝ }
 {
     if replay {
@@ -104,132 +106,150 @@ fn rate_alert(replay: bool, frame_rate: u16, rate: u16) -> CheckAlert
     CheckAlert::Refusal(AlertSeverity::Medium, AlertCode::SvRateAnomaly)
 }
 
-// The clock, the count and the rate. A clock alert does not end the checking; after a replay the rate is not compared. The svID is
-// 64 octets, zeros behind its end.
-fn sv_time_field<'a>(
-    f: SvFrame,
-    rate: u16,
-    settings: Settings,
-    clock_macs: &'a mut [u64; 16],
-    clock_seconds: &'a mut [u32; 16],
-    clock_fractions: &'a mut [u32; 16],
-    clock_active: &'a mut [bool; 16],
-    clock_used: &'a mut [u32; 16],
-    clock_tick: &'a mut u32,
-    svids: &'a mut [u8; 1024],
-    svid_lens: &'a mut [u8; 16],
-    counts: &'a mut [u16; 16],
-    active: &'a mut [bool; 16],
-    used: &'a mut [u32; 16],
-    tick: &'a mut u32,
+// What the publishers say of a frame. Where there are none, no call is made.
+pub fn sv_rule<'a>(
+    rule_macs: &'a [u64; 16],
+    rule_svids: &'a [u8; 1024],
+    rule_lens: &'a [u8; 16],
+    rule_rates: [u16; 16],
+    rule_count: u8,
+    strict: bool,
+    src_mac: u64,
     svid: &'a [u8; 64],
     svid_len: u8,
-) -> CheckAlerts
-    ensures { λ r.
-        ⌜ ((m : Iec61850Monitor) → now (svid .entry) ≡ padded (svKey f) (length (svKey f)) → «svid_len» ≡ length (svKey f) → ended (withSvParts m settings (m .rules .sv) (m .«cb_reservations») (clockTableOf (now («clock_macs» .exit)) (now («clock_seconds» .exit)) (now («clock_fractions» .exit)) (now («clock_active» .exit)) (now («clock_used» .exit)) (now («clock_tick» .exit))) (svTableOf (now (svids .exit)) (now («svid_lens» .exit)) (now (counts .exit)) (now (active .exit)) (now (used .exit)) (now (tick .exit)))) (alertsOf r) ≡ svTimeField (withSvParts m settings (m .rules .sv) (m .«cb_reservations») (clockTableOf (now («clock_macs» .entry)) (now («clock_seconds» .entry)) (now («clock_fractions» .entry)) (now («clock_active» .entry)) (now («clock_used» .entry)) (now («clock_tick» .entry))) (svTableOf (now (svids .entry)) (now («svid_lens» .entry)) (now (counts .entry)) (now (active .entry)) (now (used .entry)) (now (tick .entry)))) f rate) ⌝ }
+) -> RuleCheck
+    ensures { λ r. ⌜ r ≡ svRuleCheck strict «rule_count» «rule_rates» (lastFitting (now («rule_macs» .entry)) (now («rule_svids» .entry)) (now («rule_lens» .entry)) «rule_count» «src_mac» (now (svid .entry)) «svid_len») ⌝ }
 {
-    let mac = f.src_mac;
-    let clock = check_time_field_in(
-        clock_macs,
-        clock_seconds,
-        clock_fractions,
-        clock_active,
-        clock_used,
-        clock_tick,
-        address_of(mac),
-        f.t_seconds_since_epoch,
-        f.t_fraction_of_second,
-        settings.time_max_forward_jump_s,
-    );
-    let outcome = check_sv_seq_in(
-        svids,
-        svid_lens,
-        counts,
-        active,
-        used,
-        tick,
+    if rule_count == 0 {
+        return RuleCheck::Rate(0);
+    }
+    let found = sv_publisher(
+        rule_macs,
+        rule_svids,
+        rule_lens,
+        rule_count,
+        src_mac,
         svid,
         svid_len,
-        f.smp_cnt,
     );
-    let replay = outcome.is_replay();
-    CheckAlerts {
-        first: clock_alert(clock),
-        second: count_alert(outcome, settings.sv_max_smp_cnt_gap),
-        third: rate_alert(replay, f.smp_rate, rate),
-    }
+    sv_rule_check(found, strict, rule_count, rule_rates)
 }
 
-// The reservation of the data set, which may end the checking; then clock, count and rate.
-fn sv_reservation<'a>(
-    f: SvFrame,
-    rate: u16,
-    settings: Settings,
+// The use of the data set's reservation by a frame that the rules permit: whether it is bound to another address. A frame without a
+// data set costs no call.
+pub fn sv_hijack_check<'a>(
+    permitted: bool,
     cb_refs: &'a [u8; 1024],
     cb_lens: &'a [u8; 16],
     cb_kinds: &'a [bool; 16],
     cb_active: &'a [bool; 16],
     cb_bound: &'a mut [bool; 16],
     cb_macs: &'a mut [u64; 16],
-    clock_macs: &'a mut [u64; 16],
-    clock_seconds: &'a mut [u32; 16],
-    clock_fractions: &'a mut [u32; 16],
-    clock_active: &'a mut [bool; 16],
-    clock_used: &'a mut [u32; 16],
-    clock_tick: &'a mut u32,
-    svids: &'a mut [u8; 1024],
-    svid_lens: &'a mut [u8; 16],
-    counts: &'a mut [u16; 16],
-    active: &'a mut [bool; 16],
-    used: &'a mut [u32; 16],
-    tick: &'a mut u32,
-    svid: &'a [u8; 64],
-    svid_len: u8,
-) -> CheckAlerts
+    dataset_ref: [u8; 64],
+    dataset_ref_len: u8,
+    src_mac: u64,
+) -> bool
     ensures { λ r.
-        ⌜ ((m : Iec61850Monitor) → now (svid .entry) ≡ padded (svKey f) (length (svKey f)) → «svid_len» ≡ length (svKey f) → ended (withSvParts m settings (m .rules .sv) (cbTableOf (now («cb_refs» .entry)) (now («cb_lens» .entry)) (now («cb_kinds» .entry)) (m .«cb_reservations» .«owner_client_id») (now («cb_bound» .exit)) (now («cb_macs» .exit)) (now («cb_active» .entry))) (clockTableOf (now («clock_macs» .exit)) (now («clock_seconds» .exit)) (now («clock_fractions» .exit)) (now («clock_active» .exit)) (now («clock_used» .exit)) (now («clock_tick» .exit))) (svTableOf (now (svids .exit)) (now («svid_lens» .exit)) (now (counts .exit)) (now (active .exit)) (now (used .exit)) (now (tick .exit)))) (alertsOf r) ≡ svReservation (withSvParts m settings (m .rules .sv) (cbTableOf (now («cb_refs» .entry)) (now («cb_lens» .entry)) (now («cb_kinds» .entry)) (m .«cb_reservations» .«owner_client_id») (now («cb_bound» .entry)) (now («cb_macs» .entry)) (now («cb_active» .entry))) (clockTableOf (now («clock_macs» .entry)) (now («clock_seconds» .entry)) (now («clock_fractions» .entry)) (now («clock_active» .entry)) (now («clock_used» .entry)) (now («clock_tick» .entry))) (svTableOf (now (svids .entry)) (now («svid_lens» .entry)) (now (counts .entry)) (now (active .entry)) (now (used .entry)) (now (tick .entry)))) f rate) ⌝ }
+        ⌜ ((owners : List ℕ) → record { table = cbTableOf (now («cb_refs» .entry)) (now («cb_lens» .entry)) (now («cb_kinds» .entry)) owners (now («cb_bound» .exit)) (now («cb_macs» .exit)) (now («cb_active» .entry)); hijack = r } ≡ dataSetUsed permitted (cbTableOf (now («cb_refs» .entry)) (now («cb_lens» .entry)) (now («cb_kinds» .entry)) owners (now («cb_bound» .entry)) (now («cb_macs» .entry)) (now («cb_active» .entry))) (nameOf «dataset_ref» «dataset_ref_len») «src_mac») ⌝ }
 {
-    let mac = f.src_mac;
-    let len = valid_len(f.dataset_ref_len);
-    let name = padded(&f.dataset_ref, len);
-    if cb_hijack_check_in(
+    if !permitted {
+        return false;
+    }
+    if dataset_ref_len == 0 {
+        return false;
+    }
+    cb_hijack_check_in(
         cb_refs,
         cb_lens,
         cb_kinds,
         cb_active,
         cb_bound,
         cb_macs,
-        &name,
-        len,
+        dataset_ref,
+        dataset_ref_len,
         false,
-        address_of(mac),
-    ) {
-        return refused(AlertSeverity::High, AlertCode::CbHijack);
+        src_mac,
+    )
+}
+
+// Whether the checking reaches the clock and the count.
+pub fn goes_on(permitted: bool, hijack: bool) -> bool
+    ensures { λ r. ⌜ r ≡ (permitted && not hijack) ⌝ }
+{
+    if permitted { !hijack } else { false }
+}
+
+// The clock check of a frame, if the checking reaches it. A frame without a clock costs no call.
+pub fn sv_clock_check<'a>(
+    reached: bool,
+    clock_macs: &'a mut [u64; 16],
+    clock_seconds: &'a mut [u32; 16],
+    clock_fractions: &'a mut [u32; 16],
+    clock_active: &'a mut [bool; 16],
+    clock_used: &'a mut [u32; 16],
+    clock_tick: &'a mut u32,
+    src_mac: u64,
+    t_secs: u32,
+    t_frac: u32,
+    max_forward_jump_s: u32,
+) -> bool
+    ensures { λ r.
+        ⌜ record { table = clockTableOf (now («clock_macs» .exit)) (now («clock_seconds» .exit)) (now («clock_fractions» .exit)) (now («clock_active» .exit)) (now («clock_used» .exit)) (now («clock_tick» .exit)); alert = r } ≡ clockReached reached (clockTableOf (now («clock_macs» .entry)) (now («clock_seconds» .entry)) (now («clock_fractions» .entry)) (now («clock_active» .entry)) (now («clock_used» .entry)) (now («clock_tick» .entry))) «max_forward_jump_s» «src_mac» («t_secs», «t_frac») ⌝ }
+{
+    if !reached {
+        return false;
     }
-    sv_time_field(
-        f,
-        rate,
-        settings,
+    if !has_clock(t_secs, t_frac) {
+        return false;
+    }
+    check_time_field_in(
         clock_macs,
         clock_seconds,
         clock_fractions,
         clock_active,
         clock_used,
         clock_tick,
-        svids,
-        svid_lens,
-        counts,
-        active,
-        used,
-        tick,
-        svid,
-        svid_len,
+        src_mac,
+        t_secs,
+        t_frac,
+        max_forward_jump_s,
     )
 }
 
-// The publishers, which may end the checking; then the reservation and what follows it.
-pub fn sv_binding<'a>(
-    f: SvFrame,
+// The first alert of a frame: what ended the checking, or the clock's.
+pub fn first_alert(rule: RuleCheck, hijack: bool, clock: bool) -> CheckAlert
+    ensures { λ r. ⌜ findingsOf r ≡ firstFindings rule hijack clock ⌝ }
+{
+    match rule {
+        RuleCheck::Refused(severity, code) => CheckAlert::Refusal(severity, code),
+        RuleCheck::Rate(_) => {
+            if hijack {
+                return CheckAlert::Refusal(AlertSeverity::High, AlertCode::CbHijack);
+            }
+            clock_alert(clock)
+        }
+    }
+}
+
+// The rate that a frame's is compared with: that of its rule, none where the checking ended before.
+pub fn rate_reached(rule: RuleCheck, hijack: bool) -> u16
+    ensures { λ r. ⌜ r ≡ rateReached rule hijack ⌝ }
+{
+    match rule {
+        RuleCheck::Refused(_, _) => 0,
+        RuleCheck::Rate(rate) => {
+            if hijack {
+                return 0;
+            }
+            rate
+        }
+    }
+}
+
+// The checks of an SV frame in the columns of a monitor. They follow each other without a branch: one that is not reached changes
+// nothing.
+pub fn sv_checks<'a>(
+    frame: SvFrame,
     settings: Settings,
     rule_macs: &'a [u64; 16],
     rule_svids: &'a [u8; 1024],
@@ -256,48 +276,152 @@ pub fn sv_binding<'a>(
     tick: &'a mut u32,
 ) -> CheckAlerts
     ensures { λ r.
-        ⌜ ((m : Iec61850Monitor) → ended (withSvParts m settings (record { «src_mac» = (now («rule_macs» .entry)); svid = record { octets = (now («rule_svids» .entry)); lens = (now («rule_lens» .entry)) }; «expected_smp_rate» = «rule_rates»; count = «rule_count» }) (cbTableOf (now («cb_refs» .entry)) (now («cb_lens» .entry)) (now («cb_kinds» .entry)) (m .«cb_reservations» .«owner_client_id») (now («cb_bound» .exit)) (now («cb_macs» .exit)) (now («cb_active» .entry))) (clockTableOf (now («clock_macs» .exit)) (now («clock_seconds» .exit)) (now («clock_fractions» .exit)) (now («clock_active» .exit)) (now («clock_used» .exit)) (now («clock_tick» .exit))) (svTableOf (now (svids .exit)) (now («svid_lens» .exit)) (now (counts .exit)) (now (active .exit)) (now (used .exit)) (now (tick .exit)))) (alertsOf r) ≡ svBinding (withSvParts m settings (record { «src_mac» = (now («rule_macs» .entry)); svid = record { octets = (now («rule_svids» .entry)); lens = (now («rule_lens» .entry)) }; «expected_smp_rate» = «rule_rates»; count = «rule_count» }) (cbTableOf (now («cb_refs» .entry)) (now («cb_lens» .entry)) (now («cb_kinds» .entry)) (m .«cb_reservations» .«owner_client_id») (now («cb_bound» .entry)) (now («cb_macs» .entry)) (now («cb_active» .entry))) (clockTableOf (now («clock_macs» .entry)) (now («clock_seconds» .entry)) (now («clock_fractions» .entry)) (now («clock_active» .entry)) (now («clock_used» .entry)) (now («clock_tick» .entry))) (svTableOf (now (svids .entry)) (now («svid_lens» .entry)) (now (counts .entry)) (now (active .entry)) (now (used .entry)) (now (tick .entry)))) f) ⌝ }
+        ⌜ ((m : Iec61850Monitor) → ended (withSvParts m settings (record { «src_mac» = now («rule_macs» .entry); svid = record { octets = now («rule_svids» .entry); lens = now («rule_lens» .entry) }; «expected_smp_rate» = «rule_rates»; count = «rule_count» }) (cbTableOf (now («cb_refs» .entry)) (now («cb_lens» .entry)) (now («cb_kinds» .entry)) (m .«cb_reservations» .«owner_client_id») (now («cb_bound» .exit)) (now («cb_macs» .exit)) (now («cb_active» .entry))) (clockTableOf (now («clock_macs» .exit)) (now («clock_seconds» .exit)) (now («clock_fractions» .exit)) (now («clock_active» .exit)) (now («clock_used» .exit)) (now («clock_tick» .exit))) (svTableOf (now (svids .exit)) (now («svid_lens» .exit)) (now (counts .exit)) (now (active .exit)) (now (used .exit)) (now (tick .exit)))) (alertsOf r) ≡ svBinding (withSvParts m settings (record { «src_mac» = now («rule_macs» .entry); svid = record { octets = now («rule_svids» .entry); lens = now («rule_lens» .entry) }; «expected_smp_rate» = «rule_rates»; count = «rule_count» }) (cbTableOf (now («cb_refs» .entry)) (now («cb_lens» .entry)) (now («cb_kinds» .entry)) (m .«cb_reservations» .«owner_client_id») (now («cb_bound» .entry)) (now («cb_macs» .entry)) (now («cb_active» .entry))) (clockTableOf (now («clock_macs» .entry)) (now («clock_seconds» .entry)) (now («clock_fractions» .entry)) (now («clock_active» .entry)) (now («clock_used» .entry)) (now («clock_tick» .entry))) (svTableOf (now (svids .entry)) (now («svid_lens» .entry)) (now (counts .entry)) (now (active .entry)) (now (used .entry)) (now (tick .entry)))) frame) ⌝ }
 {
-    let mac = f.src_mac;
-    let len = valid_len(f.svid_len);
-    let svid = padded(&f.svid, len);
-    let found = sv_publisher(
+    let mac = frame.src_mac;
+    let src_mac = address_of(mac);
+    let svid_len = valid_len(frame.svid_len);
+    let octets = frame.svid;
+    let svid = padded(&octets, svid_len);
+    let rule = sv_rule(
         rule_macs,
         rule_svids,
         rule_lens,
+        rule_rates,
         rule_count,
-        address_of(mac),
+        settings.strict_mode,
+        src_mac,
         &svid,
-        len,
+        svid_len,
     );
-    match sv_rule_check(found, settings.strict_mode, rule_count, rule_rates) {
-        RuleCheck::Refused(severity, code) => refused(severity, code),
-        RuleCheck::Rate(rate) => sv_reservation(
-            f,
-            rate,
-            settings,
-            cb_refs,
-            cb_lens,
-            cb_kinds,
-            cb_active,
-            cb_bound,
-            cb_macs,
-            clock_macs,
-            clock_seconds,
-            clock_fractions,
-            clock_active,
-            clock_used,
-            clock_tick,
-            svids,
-            svid_lens,
-            counts,
-            active,
-            used,
-            tick,
-            &svid,
-            len,
+    let permitted = rule.permits();
+    let dataset_ref = frame.dataset_ref;
+    let hijack = sv_hijack_check(
+        permitted,
+        cb_refs,
+        cb_lens,
+        cb_kinds,
+        cb_active,
+        cb_bound,
+        cb_macs,
+        dataset_ref,
+        frame.dataset_ref_len,
+        src_mac,
+    );
+    let reached = goes_on(permitted, hijack);
+    let clock = sv_clock_check(
+        reached,
+        clock_macs,
+        clock_seconds,
+        clock_fractions,
+        clock_active,
+        clock_used,
+        clock_tick,
+        src_mac,
+        frame.t_seconds_since_epoch,
+        frame.t_fraction_of_second,
+        settings.time_max_forward_jump_s,
+    );
+    let outcome = check_sv_seq_in(
+        reached,
+        svids,
+        svid_lens,
+        counts,
+        active,
+        used,
+        tick,
+        &svid,
+        svid_len,
+        frame.smp_cnt,
+    );
+    CheckAlerts {
+        first: first_alert(rule, hijack, clock),
+        second: count_alert(outcome, settings.sv_max_smp_cnt_gap),
+        third: rate_alert(
+            outcome.is_replay(),
+            frame.smp_rate,
+            rate_reached(rule, hijack),
         ),
     }
+}
+
+// The inspection of an SV frame in the columns of a monitor.
+pub fn inspect_sv_in<'a>(
+    frame: SvFrame,
+    settings: Settings,
+    rule_macs: &'a [u64; 16],
+    rule_svids: &'a [u8; 1024],
+    rule_lens: &'a [u8; 16],
+    rule_rates: [u16; 16],
+    rule_count: u8,
+    cb_refs: &'a [u8; 1024],
+    cb_lens: &'a [u8; 16],
+    cb_kinds: &'a [bool; 16],
+    cb_active: &'a [bool; 16],
+    cb_bound: &'a mut [bool; 16],
+    cb_macs: &'a mut [u64; 16],
+    clock_macs: &'a mut [u64; 16],
+    clock_seconds: &'a mut [u32; 16],
+    clock_fractions: &'a mut [u32; 16],
+    clock_active: &'a mut [bool; 16],
+    clock_used: &'a mut [u32; 16],
+    clock_tick: &'a mut u32,
+    svids: &'a mut [u8; 1024],
+    svid_lens: &'a mut [u8; 16],
+    counts: &'a mut [u16; 16],
+    active: &'a mut [bool; 16],
+    used: &'a mut [u32; 16],
+    tick: &'a mut u32,
+    total: &'a mut u64,
+    next_alert_id: &'a mut u64,
+    total_alerts: &'a mut u64,
+) -> InspectResult
+    ensures { λ r.
+        ⌜ ((m : Iec61850Monitor) → record { monitor = (svMonitorOf m settings (record { «src_mac» = now («rule_macs» .entry); svid = record { octets = now («rule_svids» .entry); lens = now («rule_lens» .entry) }; «expected_smp_rate» = «rule_rates»; count = «rule_count» }) (cbTableOf (now («cb_refs» .entry)) (now («cb_lens» .entry)) (now («cb_kinds» .entry)) (m .«cb_reservations» .«owner_client_id») (now («cb_bound» .exit)) (now («cb_macs» .exit)) (now («cb_active» .entry))) (clockTableOf (now («clock_macs» .exit)) (now («clock_seconds» .exit)) (now («clock_fractions» .exit)) (now («clock_active» .exit)) (now («clock_used» .exit)) (now («clock_tick» .exit))) (svTableOf (now (svids .exit)) (now («svid_lens» .exit)) (now (counts .exit)) (now (active .exit)) (now (used .exit)) (now (tick .exit))) (now (total .exit)) (now («next_alert_id» .exit)) (now («total_alerts» .exit))); result = r } ≡ inspectSv (svMonitorOf m settings (record { «src_mac» = now («rule_macs» .entry); svid = record { octets = now («rule_svids» .entry); lens = now («rule_lens» .entry) }; «expected_smp_rate» = «rule_rates»; count = «rule_count» }) (cbTableOf (now («cb_refs» .entry)) (now («cb_lens» .entry)) (now («cb_kinds» .entry)) (m .«cb_reservations» .«owner_client_id») (now («cb_bound» .entry)) (now («cb_macs» .entry)) (now («cb_active» .entry))) (clockTableOf (now («clock_macs» .entry)) (now («clock_seconds» .entry)) (now («clock_fractions» .entry)) (now («clock_active» .entry)) (now («clock_used» .entry)) (now («clock_tick» .entry))) (svTableOf (now (svids .entry)) (now («svid_lens» .entry)) (now (counts .entry)) (now (active .entry)) (now (used .entry)) (now (tick .entry))) (now (total .entry)) (now («next_alert_id» .entry)) (now («total_alerts» .entry))) frame) ⌝ }
+{
+    let alerts = sv_checks(
+        frame,
+        settings,
+        rule_macs,
+        rule_svids,
+        rule_lens,
+        rule_rates,
+        rule_count,
+        cb_refs,
+        cb_lens,
+        cb_kinds,
+        cb_active,
+        cb_bound,
+        cb_macs,
+        clock_macs,
+        clock_seconds,
+        clock_fractions,
+        clock_active,
+        clock_used,
+        clock_tick,
+        svids,
+        svid_lens,
+        counts,
+        active,
+        used,
+        tick,
+    );
+    let counters = AlertCounters {
+        next_alert_id: *next_alert_id,
+        total_alerts: *total_alerts,
+    };
+    let pushed = push_alerts(
+        counters,
+        alerts,
+        SOURCE_IEC61850_SV,
+        frame.smp_cnt as u32,
+        frame.timestamp_us,
+    );
+    let counted = pushed.counters;
+    *total = saturating_increment(*total);
+    *next_alert_id = counted.next_alert_id;
+    *total_alerts = counted.total_alerts;
+    pushed.result
 }
 
 impl Iec61850Monitor {
@@ -321,7 +445,10 @@ impl Iec61850Monitor {
         let mut active = self.sv_seq.ageing.active;
         let mut used = self.sv_seq.ageing.last_used;
         let mut tick = self.sv_seq.ageing.tick;
-        let alerts = sv_binding(
+        let mut total = self.totals.sv_total_inspected;
+        let mut next_alert_id = self.totals.alerts.next_alert_id;
+        let mut total_alerts = self.totals.alerts.total_alerts;
+        let result = inspect_sv_in(
             frame,
             settings,
             &self.rules.sv.src_mac,
@@ -347,19 +474,17 @@ impl Iec61850Monitor {
             &mut active,
             &mut used,
             &mut tick,
+            &mut total,
+            &mut next_alert_id,
+            &mut total_alerts,
         );
         let mut totals = self.totals;
-        let counters = totals.alerts;
-        let pushed = push_alerts(
-            counters,
-            alerts,
-            SOURCE_IEC61850_SV,
-            frame.smp_cnt as u32,
-            frame.timestamp_us,
-        );
-        let counted = pushed.counters;
-        totals.sv_total_inspected = saturating_increment(totals.sv_total_inspected);
-        totals.alerts = counted;
+        let counters = AlertCounters {
+            next_alert_id: next_alert_id,
+            total_alerts: total_alerts,
+        };
+        totals.sv_total_inspected = total;
+        totals.alerts = counters;
         let mut reservations = self.cb_reservations;
         reservations.bound = cb_bound;
         reservations.bound_src_mac = cb_macs;
@@ -390,7 +515,6 @@ impl Iec61850Monitor {
         out.time_trackers = clocks;
         out.sv_seq = streams;
         out.totals = totals;
-        let result = pushed.result;
         Inspected {
             monitor: out,
             result: result,

@@ -3,12 +3,13 @@
 ghost use mathlib.Core.Path.{_≡_};
 ghost use mathlib.Core.List.{[], _∷_, foldl};
 ghost use Rattle.records.specs.Result.{cleanResult};
-ghost use Rattle.inspection.specs.Report.{refusal, clockFindings, findingsOf, alertsOf, reportedNext};
+ghost use Rattle.inspection.specs.Report.{refusal, clockFindings, findingsOf, alertsOf, isNothing, noneFound, notedOf, reportedNext};
 use records::alert::AlertCode;
 use records::alert::AlertSeverity;
 use records::result::AlertCounters;
 use records::result::InspectResult;
 use records::result::Pushed;
+use records::verdict::verdict_of;
 
 // What a check found: nothing, an alert that refuses the frame, or one that alone does not.
 pub enum CheckAlert {
@@ -75,7 +76,30 @@ fn push_alert(p: Pushed, alert: CheckAlert, source_type: u8, source_id: u32, ts_
     }
 }
 
-// The result that reports what the checks found, and the counters after its alerts.
+// Whether a check found nothing.
+fn is_nothing(alert: CheckAlert) -> bool
+    ensures { λ r. ⌜ r ≡ isNothing alert ⌝ }
+{
+    match alert {
+        CheckAlert::Nothing => true,
+        CheckAlert::Refusal(_, _) => false,
+        CheckAlert::Notice(_, _) => false,
+    }
+}
+
+// Whether three checks found nothing.
+pub fn none_found(first: CheckAlert, second: CheckAlert, third: CheckAlert) -> bool
+    ensures { λ r. ⌜ r ≡ noneFound first second third ⌝ }
+{
+    if is_nothing(first) {
+        if is_nothing(second) {
+            return is_nothing(third);
+        }
+    }
+    false
+}
+
+// The result that reports what the checks found, and the counters after its alerts. Most frames have none.
 pub fn push_alerts(
     counters: AlertCounters,
     alerts: CheckAlerts,
@@ -85,15 +109,55 @@ pub fn push_alerts(
 ) -> Pushed
     ensures { λ r. ⌜ r ≡ foldl (reportedNext «source_type» «source_id» «ts_us») (record { result = cleanResult «source_type»; counters = counters }) (alertsOf alerts) ⌝ }
 {
+    let first = alerts.first;
+    let second = alerts.second;
+    let third = alerts.third;
     let clean = InspectResult::clean(source_type);
     let none = Pushed {
         result: clean,
         counters: counters,
     };
-    let first = alerts.first;
+    if none_found(first, second, third) {
+        return none;
+    }
     let one = push_alert(none, first, source_type, source_id, ts_us);
-    let second = alerts.second;
     let two = push_alert(one, second, source_type, source_id, ts_us);
-    let third = alerts.third;
     push_alert(two, third, source_type, source_id, ts_us)
+}
+
+// The verdict on a frame without alerts.
+pub const CLEAN_VERDICT: [u8; 8] = [1, 0, 0, 0, 0, 0, 0, 0];
+
+// The verdict on a frame, and the counters after its alerts.
+pub struct Noted {
+    pub verdict: [u8; 8],
+    pub counters: AlertCounters,
+}
+
+// The verdict that reports what the checks found, and the counters after it. Without an alert no result is made.
+pub fn verdict_on(
+    counters: AlertCounters,
+    alerts: CheckAlerts,
+    source_type: u8,
+    source_id: u32,
+    ts_us: u64,
+) -> Noted
+    ensures { λ r. ⌜ r ≡ notedOf (foldl (reportedNext «source_type» «source_id» «ts_us») (record { result = cleanResult «source_type»; counters = counters }) (alertsOf alerts)) ⌝ }
+{
+    let first = alerts.first;
+    let second = alerts.second;
+    let third = alerts.third;
+    if none_found(first, second, third) {
+        return Noted {
+            verdict: CLEAN_VERDICT,
+            counters: counters,
+        };
+    }
+    let pushed = push_alerts(counters, alerts, source_type, source_id, ts_us);
+    let result = pushed.result;
+    let counted = pushed.counters;
+    Noted {
+        verdict: verdict_of(result),
+        counters: counted,
+    }
 }

@@ -7,7 +7,7 @@ ghost use mathlib.Core.List.{List};
 ghost use Rattle.records.specs.Ageing.{firstFree};
 ghost use Rattle.records.specs.Name.{nameOf};
 ghost use Rattle.records.specs.Search.{first, hasNumber};
-ghost use Rattle.inspection.specs.Reservation.{sameKind, reservesAt, ownedAt, placeOr, reserved, freedBelow, released, cbChecked, cbTableOf, cbKeptChecked, cbKeptReserved, cbKeptReleased, noReservations};
+ghost use Rattle.inspection.specs.Reservation.{sameKind, reservesAt, ownedAt, placeOr, freedBelow, cbChecked, cbTableOf, cbKeptReserved, cbKeptReleased, noReservations};
 use records::ageing::first_free;
 use records::name::Names;
 use records::name::padded;
@@ -201,54 +201,6 @@ pub fn reserve_cb_in<'a>(
     true
 }
 
-// The reservations after a SelectControl, and whether there was a place.
-pub fn reserve_cb(
-    t: CbReservations,
-    cb_ref: [u8; 64],
-    cb_ref_len: u8,
-    client_id: u32,
-    is_goose: bool,
-) -> Reserved
-    ensures { λ r. ⌜ r ≡ reserved t (nameOf «cb_ref» «cb_ref_len») «is_goose» «client_id» ⌝ }
-{
-    let len = valid_len(cb_ref_len);
-    let name = padded(&cb_ref, len);
-    let mut octets = t.cb_ref.octets;
-    let mut lens = t.cb_ref.lens;
-    let mut kinds = t.is_goose;
-    let mut owners = t.owner_client_id;
-    let mut bound = t.bound;
-    let mut bound_src_mac = t.bound_src_mac;
-    let mut active = t.active;
-    let taken = reserve_cb_in(
-        &mut octets,
-        &mut lens,
-        &mut kinds,
-        &mut owners,
-        &mut bound,
-        &mut bound_src_mac,
-        &mut active,
-        &name,
-        len,
-        client_id,
-        is_goose,
-    );
-    Reserved {
-        table: CbReservations {
-            cb_ref: Names {
-                octets: octets,
-                lens: lens,
-            },
-            is_goose: kinds,
-            owner_client_id: owners,
-            bound: bound,
-            bound_src_mac: bound_src_mac,
-            active: active,
-        },
-        taken: taken,
-    }
-}
-
 // Cancel or Conclude, in the columns of the reservations, frees a name of the same client, with an empty name all of that
 // client's of both kinds. The name is 64 octets, zeros behind its end.
 pub fn release_cb_in<'a>(
@@ -286,37 +238,8 @@ pub fn release_cb_in<'a>(
     active[i] = false;
 }
 
-// The reservations after a Cancel or Conclude.
-pub fn release_cb(
-    t: CbReservations,
-    cb_ref: [u8; 64],
-    cb_ref_len: u8,
-    client_id: u32,
-    is_goose: bool,
-) -> CbReservations
-    ensures { λ r. ⌜ r ≡ released t (nameOf «cb_ref» «cb_ref_len») «is_goose» «client_id» ⌝ }
-{
-    let len = valid_len(cb_ref_len);
-    let name = padded(&cb_ref, len);
-    let mut active = t.active;
-    release_cb_in(
-        &t.cb_ref.octets,
-        &t.cb_ref.lens,
-        &t.is_goose,
-        &t.owner_client_id,
-        &mut active,
-        &name,
-        len,
-        client_id,
-        is_goose,
-    );
-    let mut out = t;
-    out.active = active;
-    out
-}
-
 // The use of a control block by a frame, in the columns of the reservations: the first address to use one is bound, another is a
-// hijack. An empty name is never looked up. The name is 64 octets, zeros behind its end.
+// hijack. An empty name is never looked up.
 pub fn cb_hijack_check_in<'a>(
     octets: &'a [u8; 1024],
     lens: &'a [u8; 16],
@@ -324,18 +247,20 @@ pub fn cb_hijack_check_in<'a>(
     active: &'a [bool; 16],
     bound: &'a mut [bool; 16],
     bound_src_mac: &'a mut [u64; 16],
-    cb_ref: &'a [u8; 64],
+    cb_ref: [u8; 64],
     cb_ref_len: u8,
     is_goose: bool,
     src_mac: u64,
 ) -> bool
     ensures { λ r.
-        ⌜ ((owners : List ℕ) → record { table = cbTableOf (now (octets .entry)) (now (lens .entry)) (now (kinds .entry)) owners (now (bound .exit)) (now («bound_src_mac» .exit)) (now (active .entry)); hijack = r } ≡ cbKeptChecked (cbTableOf (now (octets .entry)) (now (lens .entry)) (now (kinds .entry)) owners (now (bound .entry)) (now («bound_src_mac» .entry)) (now (active .entry))) (now («cb_ref» .entry)) «cb_ref_len» «is_goose» «src_mac») ⌝ }
+        ⌜ ((owners : List ℕ) → record { table = cbTableOf (now (octets .entry)) (now (lens .entry)) (now (kinds .entry)) owners (now (bound .exit)) (now («bound_src_mac» .exit)) (now (active .entry)); hijack = r } ≡ cbChecked (cbTableOf (now (octets .entry)) (now (lens .entry)) (now (kinds .entry)) owners (now (bound .entry)) (now («bound_src_mac» .entry)) (now (active .entry))) (nameOf «cb_ref» «cb_ref_len») «is_goose» «src_mac») ⌝ }
 {
-    if cb_ref_len == 0 {
+    let len = valid_len(cb_ref_len);
+    if len == 0 {
         return false;
     }
-    let place = find_reservation(octets, lens, kinds, active, cb_ref, cb_ref_len, is_goose);
+    let name = padded(&cb_ref, len);
+    let place = find_reservation(octets, lens, kinds, active, &name, len, is_goose);
     let Found::At(i) = place else {
         return false;
     };
@@ -345,39 +270,4 @@ pub fn cb_hijack_check_in<'a>(
     bound[i] = true;
     bound_src_mac[i] = src_mac;
     false
-}
-
-// The reservations after a frame's use of its control block, and whether this is bound to another address.
-pub fn cb_hijack_check(
-    t: CbReservations,
-    cb_ref: [u8; 64],
-    cb_ref_len: u8,
-    is_goose: bool,
-    src_mac: u64,
-) -> CbChecked
-    ensures { λ r. ⌜ r ≡ cbChecked t (nameOf «cb_ref» «cb_ref_len») «is_goose» «src_mac» ⌝ }
-{
-    let len = valid_len(cb_ref_len);
-    let name = padded(&cb_ref, len);
-    let mut bound = t.bound;
-    let mut bound_src_mac = t.bound_src_mac;
-    let hijack = cb_hijack_check_in(
-        &t.cb_ref.octets,
-        &t.cb_ref.lens,
-        &t.is_goose,
-        &t.active,
-        &mut bound,
-        &mut bound_src_mac,
-        &name,
-        len,
-        is_goose,
-        src_mac,
-    );
-    let mut out = t;
-    out.bound = bound;
-    out.bound_src_mac = bound_src_mac;
-    CbChecked {
-        table: out,
-        hijack: hijack,
-    }
 }

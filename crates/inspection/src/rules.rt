@@ -1,6 +1,7 @@
 // Rule lists, carried over from industrial/iec61850-monitor/src/lib.rs of craton-shield a31d888527 (Apache-2.0) and changed: a
 // count above 16, which no call leads to, counts as 16.
 ghost use mathlib.Core.Path.{_≡_};
+ghost use Rattle.inspection.specs.Report.{permits};
 ghost use Rattle.inspection.specs.Rules.{ruleCount, addAnswer};
 use records::alert::AlertCode;
 use records::alert::AlertSeverity;
@@ -16,6 +17,18 @@ pub enum Added {
 pub enum RuleCheck {
     Refused(AlertSeverity, AlertCode),
     Rate(u16),
+}
+
+impl RuleCheck {
+    // Whether the rules let a frame pass on to the further checks.
+    pub fn permits(self) -> bool
+        ensures { λ r. ⌜ r ≡ permits self ⌝ }
+    {
+        match self {
+            RuleCheck::Refused(_, _) => false,
+            RuleCheck::Rate(_) => true,
+        }
+    }
 }
 
 // How many rules a count says; above 16 it counts as 16.

@@ -3,7 +3,7 @@
 ghost use mathlib.Core.Path.{_≡_};
 ghost use Rattle.records.specs.Name.{sameName, nameOf};
 ghost use Rattle.records.specs.Search.{firstUsed};
-ghost use Rattle.inspection.specs.SvSeq.{noSvStreams, countOutcome, outcomeNumber, isReplay, svChecked, svTableOf, svPlan, svKeptChecked};
+ghost use Rattle.inspection.specs.SvSeq.{noSvStreams, countOutcome, outcomeNumber, isReplay, svChecked, svTableOf, svPlan, svKeptCheckedIf};
 use records::ageing::Ageing;
 use records::ageing::EqualAges;
 use records::ageing::next_tick;
@@ -159,8 +159,10 @@ pub fn sv_plan<'a>(
     }
 }
 
-// Counts a frame in the columns of the streams, and answers what its count says. The svID is 64 octets, zeros behind its end.
+// Counts a frame in the columns of the streams, if the checking reaches it, and answers what its count says; a frame that it does
+// not reach is as one first seen. The svID is 64 octets, zeros behind its end.
 pub fn check_sv_seq_in<'a>(
+    reached: bool,
     octets: &'a mut [u8; 1024],
     lens: &'a mut [u8; 16],
     last_smp_cnt: &'a mut [u16; 16],
@@ -172,8 +174,11 @@ pub fn check_sv_seq_in<'a>(
     smp_cnt: u16,
 ) -> SvSeqOutcome
     ensures { λ r.
-        ⌜ record { table = svTableOf (now (octets .exit)) (now (lens .exit)) (now («last_smp_cnt» .exit)) (now (active .exit)) (now («last_used» .exit)) (now (tick .exit)); outcome = r } ≡ svKeptChecked (svTableOf (now (octets .entry)) (now (lens .entry)) (now («last_smp_cnt» .entry)) (now (active .entry)) (now («last_used» .entry)) (now (tick .entry))) (now (svid .entry)) «svid_len» «smp_cnt» ⌝ }
+        ⌜ record { table = svTableOf (now (octets .exit)) (now (lens .exit)) (now («last_smp_cnt» .exit)) (now (active .exit)) (now («last_used» .exit)) (now (tick .exit)); outcome = r } ≡ svKeptCheckedIf reached (svTableOf (now (octets .entry)) (now (lens .entry)) (now («last_smp_cnt» .entry)) (now (active .entry)) (now («last_used» .entry)) (now (tick .entry))) (now (svid .entry)) «svid_len» «smp_cnt» ⌝ }
 {
+    if !reached {
+        return SvSeqOutcome::FirstSeen;
+    }
     let plan = sv_plan(
         octets,
         lens,
@@ -207,6 +212,7 @@ pub fn check_sv_seq(t: SvSeqTable, svid: [u8; 64], svid_len: u8, smp_cnt: u16) -
     let mut last_used = t.ageing.last_used;
     let mut tick = t.ageing.tick;
     let outcome = check_sv_seq_in(
+        true,
         &mut octets,
         &mut lens,
         &mut last_smp_cnt,

@@ -69,7 +69,7 @@ fn clock_alerts(
 }
 
 // Whether a pair is checked and kept.
-fn has_clock(seconds: u32, fraction: u32) -> bool
+pub fn has_clock(seconds: u32, fraction: u32) -> bool
     ensures { λ r. ⌜ r ≡ hasClock (seconds, fraction) ⌝ }
 {
     if seconds != 0 {
@@ -150,47 +150,4 @@ pub fn check_time_field_in<'a>(
     last_t_fraction[slot] = t_frac;
     use_slot(active, last_used, tick, slot);
     plan.alert
-}
-
-// The clocks after a frame, and whether its pair alerts.
-pub fn check_time_field(
-    t: TimeTrackers,
-    src_mac: u64,
-    t_secs: u32,
-    t_frac: u32,
-    max_forward_jump_s: u32,
-) -> TimeChecked
-    ensures { λ r. ⌜ r ≡ timeChecked t «max_forward_jump_s» «src_mac» («t_secs», «t_frac») ⌝ }
-{
-    let mut src_macs = t.src_mac;
-    let mut last_t_seconds = t.last_t_seconds;
-    let mut last_t_fraction = t.last_t_fraction;
-    let mut active = t.ageing.active;
-    let mut last_used = t.ageing.last_used;
-    let mut tick = t.ageing.tick;
-    let alert = check_time_field_in(
-        &mut src_macs,
-        &mut last_t_seconds,
-        &mut last_t_fraction,
-        &mut active,
-        &mut last_used,
-        &mut tick,
-        src_mac,
-        t_secs,
-        t_frac,
-        max_forward_jump_s,
-    );
-    TimeChecked {
-        table: TimeTrackers {
-            src_mac: src_macs,
-            last_t_seconds: last_t_seconds,
-            last_t_fraction: last_t_fraction,
-            ageing: Ageing {
-                active: active,
-                last_used: last_used,
-                tick: tick,
-            },
-        },
-        alert: alert,
-    }
 }

@@ -80,15 +80,14 @@ goose-reservation-requires c κs = search needs
 
 returns-3 : tie.Need-returns-3
 returns-3 c m owners =
-    let i = c .before .before .before .before .before .before .before .before .before .before .before .before .before .before .before .before .before .before in
+    let i = c .before .before .before .before .before .before .before .before .before .before .before .before .before .before .before .before .before in
     let n = i .before in
     let p = n .before .before .before .before in
     let v = p .before .before .before in
     let j = v .before .before in
     let s = j .before in
     let f = s .args .t1 in
-    c .goose-reservation .ensures m (publishers s) owners (kept-octets (f .«go_cb_ref») (f .«go_cb_ref_len») (size s) (v .valid-len .ensures) (p .padded .ensures))
-    (kept-len (f .«go_cb_ref») (f .«go_cb_ref_len») (size s) (v .valid-len .ensures) (p .padded .ensures))
+    c .goose-reservation .ensures m (publishers s) owners
     ∙ listed-checked (whole s m owners) f (size s) (unblocked j) (v .valid-len .ensures) (p .padded .ensures)
     (n .before .before .before .address-of .ensures) (n .before .goose-publisher .ensures) (n .not-listed .ensures) (i .if3 .left)
 

@@ -2,20 +2,29 @@
 -- verdicts are written.
 use Prim.Native.Nat.{ℕ, _+_, _*_, _≤_, _<_, _-_}
 use mathlib.Core.Bool.{Bool}
-use mathlib.Core.List.{List}
-use mathlib.Core.Path.{_≡_, ap, _∙_}
+use mathlib.Core.List.{List, foldl}
+use mathlib.Core.Logic.{⊎-elim}
+use mathlib.Core.Path.{_≡_, sym, ap, _∙_}
 use native.Mathlib.Omega.{arith}
 use borrow.Author.Needs.{needs}
+use borrow.Author.Tests.{not-false}
 use lib.ListN.{length}
+use Rattle.records.specs.declared.frame.SvFrame.{SvFrame}
 use Rattle.records.specs.declared.result.AlertCounters.{AlertCounters}
+use Rattle.records.specs.Alert.{sourceSv}
+use Rattle.records.specs.Result.{cleanResult}
+use Rattle.records.proofs.NameLaws.{kept-len, kept-octets}
+use Rattle.inspection.specs.declared.report.CheckAlerts.{CheckAlerts}
 use Rattle.inspection.specs.declared.monitor.Iec61850Monitor.{Iec61850Monitor}
 use Rattle.inspection.specs.Batch.{batchCount, frameAt, svAfter, svVerdicts}
 use Rattle.inspection.specs.InspectSv.{withSvParts}
 use Rattle.inspection.specs.Monitor.{mmsTotalInspected, gooseTotalInspected, withTotals}
+use Rattle.inspection.specs.Report.{reportedNext, alertsOf, notedOf}
 use Rattle.inspection.specs.Reservation.{cbTableOf}
 use Rattle.inspection.specs.SvSeq.{svTableOf}
 use Rattle.inspection.specs.TimeField.{clockTableOf}
-use Rattle.inspection.proofs.BatchLaws.{record-fits, verdict-fits, all-passed, cut-length, cut-frame, none-after, no-verdicts, length-verdicts, after-more, verdicts-more}
+use Rattle.inspection.proofs.BatchLaws.{record-fits, all-passed, cut-frame, none-after, no-verdicts, length-verdicts, after-more, verdicts-more}
+use Rattle.inspection.proofs.StageLaws.{nothing-noted, sv-checked}
 use Rattle.inspection.proofs.monitor.Iec61850Monitor.inspect_sv_batch.Statement.{statement}
 use Rattle.inspection.proofs.monitor.Iec61850Monitor.inspect_sv_batch.Tie as tie
 
@@ -73,14 +82,9 @@ record-ends c = omega (arith, record-within c, frames-fit (batch (c .before) .be
 same-room : (l : tie.At-loop Inv-loop μ-loop) → length (l .loop .verdicts) ≡ length (room l)
 same-room l = ap length (l .loop .inv .2) ∙ length-verdicts (monitor l) (octets l) (room l) (l .loop .i)
 
-verdict-within : (c : tie.In-loop Inv-loop μ-loop) → c .before .loop .i * 8 + 8 ≤ length (c .before .loop .verdicts)
-verdict-within c =
-    let h = verdict-fits (length (octets (c .before))) _ (counted (c .before)) (below c) in
-    omega (arith, h, same-room (c .before))
-
 -- the beginning of the loop's body, from its end
 abbrev body : tie.After-saturating-increment Inv-loop μ-loop → tie.In-loop Inv-loop μ-loop
-body c = c .before .before .before .before .before .before .before .before .before .before .before .before .before .before .before .before .before .before .before .before .before .before .before .before .before .before .before .before .before .before .before .before .before .before
+body c = c .before .before .before .before .before .before .before .before .before .before .before .before .before .before .before .before .before .before .before .before .before .before .before .before .before .before .before .before .before .before .before .before .before .before .before .before .before .before .before .before .before .before .before .before .before .before .before .before .before .before .before .before
 
 batch-count-requires : tie.Need-batch-count-requires Inv-loop μ-loop
 batch-count-requires c κs = search needs
@@ -109,10 +113,52 @@ part-sv-frame-of-end : tie.Need-part-sv-frame-of-end Inv-loop μ-loop
 part-sv-frame-of-end c = record-within c
 
 sv-frame-of-requires : tie.Need-sv-frame-of-requires Inv-loop μ-loop
-sv-frame-of-requires c κs = cut-length (octets (c .before .before)) (c .before .before .loop .i) (record-within (c .before))
+sv-frame-of-requires c κs = search needs
 
-sv-binding-requires : tie.Need-sv-binding-requires Inv-loop μ-loop
-sv-binding-requires c κs = search needs
+address-of-requires : tie.Need-address-of-requires Inv-loop μ-loop
+address-of-requires c κs = search needs
+
+valid-len-requires : tie.Need-valid-len-requires Inv-loop μ-loop
+valid-len-requires c κs = search needs
+
+padded-requires : tie.Need-padded-requires Inv-loop μ-loop
+padded-requires c κs = search needs
+
+sv-rule-requires : tie.Need-sv-rule-requires Inv-loop μ-loop
+sv-rule-requires c κs = search needs
+
+permits-requires : tie.Need-permits-requires Inv-loop μ-loop
+permits-requires c κs = search needs
+
+sv-hijack-check-requires : tie.Need-sv-hijack-check-requires Inv-loop μ-loop
+sv-hijack-check-requires c κs = search needs
+
+goes-on-requires : tie.Need-goes-on-requires Inv-loop μ-loop
+goes-on-requires c κs = search needs
+
+sv-clock-check-requires : tie.Need-sv-clock-check-requires Inv-loop μ-loop
+sv-clock-check-requires c κs = search needs
+
+check-sv-seq-in-requires : tie.Need-check-sv-seq-in-requires Inv-loop μ-loop
+check-sv-seq-in-requires c κs = search needs
+
+first-alert-requires : tie.Need-first-alert-requires Inv-loop μ-loop
+first-alert-requires c κs = search needs
+
+count-alert-requires : tie.Need-count-alert-requires Inv-loop μ-loop
+count-alert-requires c κs = search needs
+
+is-replay-requires : tie.Need-is-replay-requires Inv-loop μ-loop
+is-replay-requires c κs = search needs
+
+rate-reached-requires : tie.Need-rate-reached-requires Inv-loop μ-loop
+rate-reached-requires c κs = search needs
+
+rate-alert-requires : tie.Need-rate-alert-requires Inv-loop μ-loop
+rate-alert-requires c κs = search needs
+
+none-found-requires : tie.Need-none-found-requires Inv-loop μ-loop
+none-found-requires c κs = search needs
 
 cast-verdict-on : tie.Need-cast-verdict-on Inv-loop μ-loop
 cast-verdict-on c = search needs
@@ -121,10 +167,10 @@ verdict-on-requires : tie.Need-verdict-on-requires Inv-loop μ-loop
 verdict-on-requires c κs = search needs
 
 mul-put-verdict : tie.Need-mul-put-verdict Inv-loop μ-loop
-mul-put-verdict c = omega (arith, record-ends (c .before .before .before .before .before .before .before .before .before .before .before .before .before .before .before .before .before .before .before .before .before .before .before .before .before .before .before .before .before .before))
+mul-put-verdict c = omega (arith, record-ends (c .before .before .before .before .before .before .before .before .before .before .before .before .before .before .before .before .before .before .before .before .before .before .before .before .before .before .before .before .before .before .before .before .before .before .before .before .before .before .before .before .before .before .before .before .before .before .before .before))
 
 put-verdict-requires : tie.Need-put-verdict-requires Inv-loop μ-loop
-put-verdict-requires c κs = verdict-within (c .before .before .before .before .before .before .before .before .before .before .before .before .before .before .before .before .before .before .before .before .before .before .before .before .before .before .before .before .before .before)
+put-verdict-requires c κs = search needs
 
 saturating-increment-requires : tie.Need-saturating-increment-requires Inv-loop μ-loop
 saturating-increment-requires c κs = search needs
@@ -139,20 +185,73 @@ loop-less c = omega (arith, below (body c))
 frame-read : (c : tie.After-sv-frame-of Inv-loop μ-loop) → c .sv-frame-of .result ≡ frameAt (octets (c .before .before .before)) (c .before .before .before .loop .i)
 frame-read c = cut-frame (octets (c .before .before .before)) (c .before .before .before .loop .i) (c .sv-frame-of .ensures)
 
+-- the frame that the body reads, and what its checks found
+abbrev frameOf : tie.Joined1 Inv-loop μ-loop → SvFrame
+frameOf j = j .before .before .before .before .before .before .before .before .before .before .before .before .before .before .before .before .before .before .before .before .before .before .before .before .before .before .before .before .before .before .before .before .before .before .before .before .before .before .before .before .before .before .before .before .before .sv-frame-of .result
+
+abbrev alerts : tie.Joined1 Inv-loop μ-loop → CheckAlerts
+alerts j =
+    let z = j .before .before in
+    record {
+      first = z .before .before .before .before .first-alert .result;
+      second = z .before .before .before .count-alert .result;
+      third = z .rate-alert .result;
+    }
+
+size : (c : tie.After-sv-frame-of Inv-loop μ-loop) → length (c .sv-frame-of .result .svid) ≡ 64
+size c = search needs
+
+-- the monitor that the body begins with, its frame counted
+abbrev counted-one : tie.Joined1 Inv-loop μ-loop → ℕ → Iec61850Monitor
+counted-one j total =
+    let a = j .before .before .before .before .before .before .before .before .before .before .before .before .before .before .before .before .before .before .before .before .before .before .before .before .before .before .before .before .before .before .before .before .before .before .before .before .before .before .before .before .before .before .before .before .before .before .before .before in
+    let l = a .loop in
+    whole (monitor a) (l .cb-bound) (l .cb-macs) (l .clock-macs) (l .clock-seconds) (l .clock-fractions) (l .clock-active) (l .clock-used) (l .clock-tick) (l .svids) (l .svid-lens) (l .counts) (l .active) (l .used) (l .tick) total (l .counters)
+
+-- what the checks of the body found: the verdict on it, and the counters after it
+noted :
+    (j : tie.Joined1 Inv-loop μ-loop)
+    → record { verdict = j .if1 .verdict; counters = j .if1 .counters }
+    ≡ notedOf
+    (foldl (reportedNext sourceSv (frameOf j .«smp_cnt») (frameOf j .«timestamp_us»))
+    (record { result = cleanResult sourceSv; counters = j .before .before .before .before .before .before .before .before .before .before .before .before .before .before .before .before .before .before .before .before .before .before .before .before .before .before .before .before .before .before .before .before .before .before .before .before .before .before .before .before .before .before .before .before .before .before .before .before .loop .counters }) (alertsOf (alerts j)))
+noted j =
+    let n = j .before in
+    ⊎-elim (λ w. (λ i. record { verdict = w .6 i; counters = w .5 i }) ∙ w .2 .ensures)
+    (λ w. (λ i. record { verdict = w .2 i; counters = w .1 i }) ∙ nothing-noted _ _ _ _ (alerts j) (sym (n .none-found .ensures) ∙ not-false _ (w .0 .left))) (j .if1 .came)
+
 loop-again : tie.Need-loop-again Inv-loop μ-loop
 loop-again c =
     let l = body c .before .loop in
     let m = monitor (body c .before) in
     let frames = octets (body c .before) in
-    let f = c .before .before .before .before .before .before .before .before .before .before .before .before .before .before .before .before .before .before .before .before .before .before .before .before .before .before .before .before .before .before .before .before in
     let total = c .saturating-increment in
-    let e = c .before .before .before .before .before .before .before .before .before .sv-binding .ensures (withTotals m (mmsTotalInspected m) (gooseTotalInspected m) (total .result) (l .counters)) in
-    let r = c .before .before .before .before .before .before .before .verdict-on .ensures in
+    let j = c .before .before .before .before .before in
+    let z = j .before .before in
+    let q = z .before .before .before .before .before in
+    let t = q .before .before .before .before .before .before .before .before in
+    let g = t .before .before .before .before .before .before .before in
+    let h = g .before in
+    let n = h .before .before .before .before .before .before .before .before .before in
+    let r = n .before in
+    let k = r .before .before .before .before .before .before in
+    let v = k .before .before .before in
+    let x = v .before .before .before in
+    let f = x .sv-frame-of .result in
+    let e =
+    sv-checked (counted-one j (total .result)) f
+    (z .before .before .before .before .first-alert .result) (z .before .before .before .count-alert .result) (z .rate-alert .result)
+    (kept-octets (f .svid) (f .«svid_len») (size x) (v .valid-len .ensures) (k .padded .ensures))
+    (kept-len (f .svid) (f .«svid_len») (size x) (v .valid-len .ensures) (k .padded .ensures))
+    (v .before .address-of .ensures) (r .sv-rule .ensures) (n .permits .ensures) (h .sv-hijack-check .ensures (m .«cb_reservations» .«owner_client_id»))
+    (g .goes-on .ensures) (t .sv-clock-check .ensures) (q .check-sv-seq-in .ensures)
+    (z .before .before .before .before .first-alert .ensures) (z .before .before .before .count-alert .ensures) (z .before .before .is-replay .ensures)
+    (z .before .rate-reached .ensures) (z .rate-alert .ensures) in
     let before = whole m (l .cb-bound) (l .cb-macs) (l .clock-macs) (l .clock-seconds) (l .clock-fractions) (l .clock-active) (l .clock-used) (l .clock-tick) (l .svids) (l .svid-lens) (l .counts) (l .active) (l .used) (l .tick) (l .total) (l .counters) in (
       omega (arith, below (body c)),
-      after-more m frames (l .i) {before = before} _ _ (l .inv .1) (frame-read f) (total .ensures) e r,
+      after-more m frames (l .i) {before = before} _ _ (l .inv .1) (frame-read (j .before .before .before .before .before .before .before .before .before .before .before .before .before .before .before .before .before .before .before .before .before .before .before .before .before .before .before .before .before .before .before .before .before .before .before .before .before .before .before .before .before .before .before .before .before)) (total .ensures) e (noted j),
       c .before .before .before .put-verdict .ensures
-          ∙ verdicts-more m frames (l .i) {before = before} _ _ (l .inv .1) (frame-read f) (total .ensures) e r (room (body c .before)) (l .inv .2),
+          ∙ verdicts-more m frames (l .i) {before = before} _ _ (l .inv .1) (frame-read (j .before .before .before .before .before .before .before .before .before .before .before .before .before .before .before .before .before .before .before .before .before .before .before .before .before .before .before .before .before .before .before .before .before .before .before .before .before .before .before .before .before .before .before .before .before)) (total .ensures) e (noted j) (room (body c .before)) (l .inv .2),
     )
 
 same-length : tie.Need-same-length Inv-loop μ-loop
@@ -179,7 +278,21 @@ inspect-sv-batch-spec =
     part-sv-frame-of-start
     part-sv-frame-of-end
     sv-frame-of-requires
-    sv-binding-requires
+    address-of-requires
+    valid-len-requires
+    padded-requires
+    sv-rule-requires
+    permits-requires
+    sv-hijack-check-requires
+    goes-on-requires
+    sv-clock-check-requires
+    check-sv-seq-in-requires
+    first-alert-requires
+    count-alert-requires
+    is-replay-requires
+    rate-reached-requires
+    rate-alert-requires
+    none-found-requires
     cast-verdict-on
     verdict-on-requires
     mul-put-verdict
