@@ -9,8 +9,9 @@ use vs_types_ind::SvFrame;
 #[path = "../examples/rust/mokyndu.rs"]
 mod mokyndu;
 use mokyndu::{GooseFrame, MmsFrame, NO_ERROR};
+use mokyndu::{goose_in_place, mms_in_place, sv_in_place};
 use mokyndu::{mokyndu_add_mms_rule, mokyndu_inspect_goose, mokyndu_inspect_mms, mokyndu_inspect_raw_sv, mokyndu_inspect_sv};
-use mokyndu::{mokyndu_inspect_sv_batch, mokyndu_new};
+use mokyndu::{mokyndu_inspect_sv_batch, mokyndu_new, mokyndu_parse_sv};
 
 // What a way of inspecting took, in nanoseconds for each frame of each round, and how many frames it allowed.
 struct Timed {
@@ -43,10 +44,11 @@ fn timed(rounds: usize, frames: usize, ways: &mut [&mut dyn FnMut() -> u64]) -> 
     out
 }
 
-// Writes the row of a table: the Rust's time, and of each other way its time and the ratio to the Rust's best.
-fn row(name: &str, ways: &[Timed]) {
+// Writes the row of a table: the Rust's time, and of each other way its time and the ratio to the Rust's best. The first column of
+// those is the batch's, which only SV frames have.
+fn row(name: &str, batch: bool, ways: &[Timed]) {
     let rust = ways[0].best();
-    print!("| {name} | {:.0} / {:.0} |", rust, ways[0].median());
+    print!("| {name} | {:.0} / {:.0} |{}", rust, ways[0].median(), if batch { "" } else { " | |" });
     for way in &ways[1..] {
         print!(" {:.0} / {:.0} | {:.2} |", way.best(), way.median(), way.best() / rust);
         assert_eq!(way.allowed, ways[0].allowed, "{name}: the verdicts differ");
@@ -104,6 +106,10 @@ fn sv_row(rounds: usize, frames: usize, streams: usize, len: usize) {
             black_box(mokyndu_inspect_sv_batch(m, octets, frames * size_of::<mokyndu::SvFrame>(), verdicts.as_mut_ptr(), verdicts.len()));
             verdicts.chunks(8).filter(|v| v[0] == 1).count() as u64
         },
+        &mut || {
+            let mut m = unsafe { mokyndu_new() };
+            ours.iter().filter(|f| sv_in_place(&mut m, black_box(f)).octets[0] == 1).count() as u64
+        },
         &mut || unsafe {
             let mut m = mokyndu_new();
             let mut allowed = 0;
@@ -115,7 +121,7 @@ fn sv_row(rounds: usize, frames: usize, streams: usize, len: usize) {
             allowed
         },
     ]);
-    row(&format!("SV, {streams} streams, svID of {len} octets"), &ways);
+    row(&format!("SV, {streams} streams, svID of {len} octets"), true, &ways);
 }
 
 fn goose_row(rounds: usize, frames: usize, streams: usize) {
@@ -151,6 +157,10 @@ fn goose_row(rounds: usize, frames: usize, streams: usize) {
             let mut m = rust::Iec61850Monitor::new();
             theirs.iter().filter(|f| m.inspect_goose(black_box(f)).allowed).count() as u64
         },
+        &mut || {
+            let mut m = unsafe { mokyndu_new() };
+            ours.iter().filter(|f| goose_in_place(&mut m, black_box(f)).octets[0] == 1).count() as u64
+        },
         &mut || unsafe {
             let mut m = mokyndu_new();
             let mut allowed = 0;
@@ -162,14 +172,7 @@ fn goose_row(rounds: usize, frames: usize, streams: usize) {
             allowed
         },
     ]);
-    single_row(&format!("GOOSE, {streams} streams"), &ways);
-}
-
-// A row without a batch form.
-fn single_row(name: &str, ways: &[Timed]) {
-    assert_eq!(ways[0].allowed, ways[1].allowed, "{name}: the verdicts differ");
-    let (rust, ours) = (ways[0].best(), ways[1].best());
-    println!("| {name} | {:.0} / {:.0} | | | {:.0} / {:.0} | {:.2} |", rust, ways[0].median(), ours, ways[1].median(), ours / rust);
+    row(&format!("GOOSE, {streams} streams"), false, &ways);
 }
 
 fn mms_row(rounds: usize, frames: usize) {
@@ -204,6 +207,10 @@ fn mms_row(rounds: usize, frames: usize) {
             m.add_mms_rule(0xFFFF, false, 50).expect("a rule");
             theirs.iter().filter(|f| m.inspect_mms(black_box(f)).allowed).count() as u64
         },
+        &mut || {
+            let mut m = unsafe { mokyndu_add_mms_rule(mokyndu_new(), 0xFFFF, 0, 50).monitor };
+            ours.iter().filter(|f| mms_in_place(&mut m, black_box(f)).octets[0] == 1).count() as u64
+        },
         &mut || unsafe {
             let mut m = mokyndu_add_mms_rule(mokyndu_new(), 0xFFFF, 0, 50).monitor;
             let mut allowed = 0;
@@ -215,7 +222,7 @@ fn mms_row(rounds: usize, frames: usize) {
             allowed
         },
     ]);
-    single_row("MMS with rates, 16 keys", &ways);
+    row("MMS with rates, 16 keys", false, &ways);
 }
 
 // A raw SV frame of 39 octets, or more: then samples (tag 87) fill it up. Each part is a tag, its length and its content.
@@ -252,6 +259,17 @@ fn raw_row(rounds: usize, frames: usize, octets: usize) {
             let mut m = mokyndu_new();
             let mut allowed = 0;
             for (k, octets) in raw.iter().enumerate() {
+                let p = mokyndu_parse_sv(black_box(octets).as_ptr(), octets.len(), k as u64);
+                if p.error == NO_ERROR {
+                    allowed += (sv_in_place(&mut m, &p.frame).octets[0] == 1) as u64;
+                }
+            }
+            allowed
+        },
+        &mut || unsafe {
+            let mut m = mokyndu_new();
+            let mut allowed = 0;
+            for (k, octets) in raw.iter().enumerate() {
                 let i = mokyndu_inspect_raw_sv(m, black_box(octets).as_ptr(), octets.len(), k as u64);
                 m = i.monitor;
                 allowed += (i.error == NO_ERROR && i.result.allowed == 1) as u64;
@@ -260,7 +278,7 @@ fn raw_row(rounds: usize, frames: usize, octets: usize) {
         },
     ]);
     assert!(ways[0].allowed > 0, "the raw frames are read");
-    single_row(&format!("raw SV, 8 streams, {octets} octets"), &ways);
+    row(&format!("raw SV, 8 streams, {octets} octets"), false, &ways);
 }
 
 fn main() {
@@ -268,8 +286,8 @@ fn main() {
     let rounds = args.next().unwrap_or(7);
     let frames = args.next().unwrap_or(200_000);
     println!("{rounds} rounds of {frames} frames; best / median, nanoseconds a frame; ratios of the best times\n");
-    println!("| frames | the Rust | batch | ratio | one call by value | ratio |");
-    println!("|---|---|---|---|---|---|");
+    println!("| frames | the Rust | batch | ratio | one call in place | ratio | one call by value | ratio |");
+    println!("|---|---|---|---|---|---|---|---|");
     for len in [4, 30] {
         for streams in [1, 8, 16, 17] {
             sv_row(rounds, frames, streams, len);

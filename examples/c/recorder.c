@@ -77,6 +77,17 @@ static void sv_batch(uint16_t count, uint64_t time) {
                verdicts[k][2]);
 }
 
+/* A raw frame read, and then the next count and a replay, each in place: nothing of the monitor is copied. */
+static void sv_in_place(const uint8_t *octets, size_t len, uint64_t time) {
+    mokyndu_parsed p = mokyndu_parse_sv(octets, len, time);
+    for (int k = 0; p.error == MOKYNDU_NO_ERROR && k < 2; k++) {
+        p.frame.smp_cnt = 104;
+        mokyndu_verdict v = mokyndu_sv_in_place(&monitor, p.frame);
+        printf("in place, SV frame %d: %s, alerts %d, first of code %d\n", p.frame.smp_cnt, v.octets[0] ? "allowed" : "refused", v.octets[1],
+               v.octets[2]);
+    }
+}
+
 int main(void) {
     uint8_t octets[39] = {1, 12, 205, 4, 0, 1, 2, 0, 0, 0, 0, 1, 0x88, 0xBA, 0x40, 0, 0, 25, 0, 0, 0, 0,
                           0x60, 15, 0x80, 1, 1, 0xA2, 10, 0x30, 8, 0x80, 2, 'M', '1', 0x82, 2, 0, 101};
@@ -97,6 +108,8 @@ int main(void) {
     octets[30]++;
     raw_sv("raw SV frame, one octet damaged", octets, sizeof octets, 1001000);
     sv_batch(102, 1002000);
+    octets[30]--;
+    sv_in_place(octets, sizeof octets, 1003000);
     goose("GOOSE frame", unit, 0, 0, 2000000);
     goose("GOOSE frame too late", unit, 1, 0, 2007000);
     goose("GOOSE test frame", unit, 2, 1, 2066000);

@@ -88,6 +88,20 @@ impl Recorder {
         }
     }
 
+    // A raw frame read, and then the next count and a replay, each in place: nothing of the monitor is copied.
+    fn sv_in_place(&mut self, octets: &[u8], time: u64) {
+        let parsed = unsafe { mokyndu_parse_sv(octets.as_ptr(), octets.len(), time) };
+        if parsed.error != NO_ERROR {
+            return;
+        }
+        let frame = SvFrame { smp_cnt: 104, ..parsed.frame };
+        for _ in 0..2 {
+            let v = sv_in_place(&mut self.0, &frame).octets;
+            let answer = if v[0] == 1 { "allowed" } else { "refused" };
+            println!("in place, SV frame {}: {answer}, alerts {}, first of code {}", frame.smp_cnt, v[1], v[2]);
+        }
+    }
+
     fn add_sv_publisher(&mut self, what: &str, svid: &[u8], rate: u16) {
         let answer = unsafe { mokyndu_add_sv_publisher(self.0, UNIT.as_ptr(), svid.as_ptr(), svid.len(), rate) };
         self.added(what, answer);
@@ -121,6 +135,8 @@ fn main() {
     octets[30] += 1;
     r.raw_sv("raw SV frame, one octet damaged", &octets, 1001000);
     r.sv_batch(102, 1002000);
+    octets[30] -= 1;
+    r.sv_in_place(&octets, 1003000);
     r.goose("GOOSE frame", UNIT, 0, 0, 2000000);
     r.goose("GOOSE frame too late", UNIT, 1, 0, 2007000);
     r.goose("GOOSE test frame", UNIT, 2, 1, 2066000);

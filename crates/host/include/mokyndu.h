@@ -1,9 +1,9 @@
 /* The IEC 61850 monitor for a recorder in C: the exports of libhost.a (crates/host), which `rt staticlib host` builds.
    docs/HOST.md says how to embed it. x86-64 Linux, little-endian; the layouts are those of the C compiler.
 
-   A monitor goes in by value and comes back by value: each call copies its 6272 octets in, and each that returns one copies them
-   out. No call keeps a pointer, allocates, or has state of its own. Octets are passed as a pointer and a length; of no octets the
-   pointer still must not be null. A flag is a number of 8 bits: handed in, any but 0 is true; handed out, true is 1. */
+   In the calls by value a monitor goes in and comes back by value: each copies its 6272 octets in, and each that returns one copies them
+   out. The calls in place change a monitor where it stands. No call keeps a pointer, allocates, or has state of its own. Octets are passed
+   as a pointer and a length; of no octets the pointer still must not be null. A flag is a number of 8 bits: handed in, any but 0 is true; handed out, true is 1. */
 #ifndef MOKYNDU_H
 #define MOKYNDU_H
 
@@ -380,12 +380,91 @@ mokyndu_inspected mokyndu_inspect_sv(mokyndu_monitor monitor, mokyndu_sv_frame f
 /* An SV frame as it was on the wire, from the destination address on, and the time at which it was seen. */
 mokyndu_raw_inspected mokyndu_inspect_raw_sv(mokyndu_monitor monitor, const uint8_t *octets, size_t len, uint64_t timestamp_us);
 
+/* ---- a frame in place: the monitor is changed where it stands, and nothing of it is copied. The inline functions hand the addresses
+   of its columns to the exports, which read and write those columns only. The monitor is then the one that the call by value would return, and
+   the verdict its result in eight octets: allowed, the number of alerts (at most three), then the code and the severity of each
+   alert, 0 and 0 where there is none. The number of the last of these alerts is the monitor's totals.next_alert_id after the call, less 1.
+   The addresses must be those of one monitor's columns, which nothing else reads or writes during the call. */
+#define MOKYNDU_VERDICT_LEN 8
+
+typedef struct {
+    uint8_t octets[MOKYNDU_VERDICT_LEN];
+} mokyndu_verdict; /* 8 */
+
+mokyndu_verdict mokyndu_inspect_mms_in(
+    mokyndu_mms_frame frame, mokyndu_settings settings, mokyndu_mms_rules rules, uint64_t *keys, uint16_t *tokens,
+    uint16_t *capacity, uint64_t *last_refill_us, uint8_t *active, uint32_t *used, uint32_t *tick, uint8_t *cb_refs,
+    uint8_t *cb_lens, uint8_t *cb_kinds, uint32_t *cb_owners, uint8_t *cb_bound, uint64_t *cb_macs, uint8_t *cb_active,
+    uint64_t *total, uint64_t *next_alert_id, uint64_t *total_alerts);
+
+static inline mokyndu_verdict mokyndu_mms_in_place(mokyndu_monitor *monitor, mokyndu_mms_frame frame)
+{
+    return mokyndu_inspect_mms_in(
+        frame, monitor->settings, monitor->rules.mms, monitor->rate_buckets.key, monitor->rate_buckets.tokens,
+        monitor->rate_buckets.capacity, monitor->rate_buckets.last_refill_us, monitor->rate_buckets.ageing.active,
+        monitor->rate_buckets.ageing.last_used, &monitor->rate_buckets.ageing.tick, monitor->cb_reservations.cb_ref.octets,
+        monitor->cb_reservations.cb_ref.lens, monitor->cb_reservations.is_goose, monitor->cb_reservations.owner_client_id,
+        monitor->cb_reservations.bound, monitor->cb_reservations.bound_src_mac, monitor->cb_reservations.active,
+        &monitor->totals.mms_total_inspected, &monitor->totals.next_alert_id, &monitor->totals.total_alerts);
+}
+
+mokyndu_verdict mokyndu_inspect_goose_in(
+    mokyndu_goose_frame frame, mokyndu_settings settings, const uint64_t *rule_macs, const uint8_t *rule_refs,
+    const uint8_t *rule_lens, uint8_t rule_count, const uint8_t *cb_refs, const uint8_t *cb_lens, const uint8_t *cb_kinds,
+    const uint8_t *cb_active, uint8_t *cb_bound, uint64_t *cb_macs, uint64_t *clock_macs, uint32_t *clock_seconds,
+    uint32_t *clock_fractions, uint8_t *clock_active, uint32_t *clock_used, uint32_t *clock_tick, uint64_t *src_macs,
+    uint32_t *hashes, uint32_t *last_st_num, uint32_t *last_sq_num, uint64_t *last_seen_us, uint8_t *active, uint32_t *used,
+    uint32_t *tick, uint64_t *total, uint64_t *next_alert_id, uint64_t *total_alerts);
+
+static inline mokyndu_verdict mokyndu_goose_in_place(mokyndu_monitor *monitor, mokyndu_goose_frame frame)
+{
+    return mokyndu_inspect_goose_in(
+        frame, monitor->settings, monitor->rules.goose.src_mac, monitor->rules.goose.go_cb_ref.octets,
+        monitor->rules.goose.go_cb_ref.lens, monitor->rules.goose.count, monitor->cb_reservations.cb_ref.octets,
+        monitor->cb_reservations.cb_ref.lens, monitor->cb_reservations.is_goose, monitor->cb_reservations.active,
+        monitor->cb_reservations.bound, monitor->cb_reservations.bound_src_mac, monitor->time_trackers.src_mac,
+        monitor->time_trackers.last_t_seconds, monitor->time_trackers.last_t_fraction, monitor->time_trackers.ageing.active,
+        monitor->time_trackers.ageing.last_used, &monitor->time_trackers.ageing.tick, monitor->goose_seq.src_mac,
+        monitor->goose_seq.go_cb_ref_hash, monitor->goose_seq.last_st_num, monitor->goose_seq.last_sq_num,
+        monitor->goose_seq.last_seen_us, monitor->goose_seq.ageing.active, monitor->goose_seq.ageing.last_used,
+        &monitor->goose_seq.ageing.tick, &monitor->totals.goose_total_inspected, &monitor->totals.next_alert_id,
+        &monitor->totals.total_alerts);
+}
+
+mokyndu_verdict mokyndu_inspect_sv_in(
+    mokyndu_sv_frame frame, mokyndu_settings settings, const uint64_t *rule_macs, const uint8_t *rule_svids,
+    const uint8_t *rule_lens, const uint16_t *rule_rates, uint8_t rule_count, const uint8_t *cb_refs, const uint8_t *cb_lens,
+    const uint8_t *cb_kinds, const uint8_t *cb_active, uint8_t *cb_bound, uint64_t *cb_macs, uint64_t *clock_macs,
+    uint32_t *clock_seconds, uint32_t *clock_fractions, uint8_t *clock_active, uint32_t *clock_used, uint32_t *clock_tick,
+    uint8_t *svids, uint8_t *svid_lens, uint16_t *counts, uint8_t *active, uint32_t *used, uint32_t *tick, uint64_t *total,
+    uint64_t *next_alert_id, uint64_t *total_alerts);
+
+static inline mokyndu_verdict mokyndu_sv_in_place(mokyndu_monitor *monitor, mokyndu_sv_frame frame)
+{
+    return mokyndu_inspect_sv_in(
+        frame, monitor->settings, monitor->rules.sv.src_mac, monitor->rules.sv.svid.octets, monitor->rules.sv.svid.lens,
+        monitor->rules.sv.expected_smp_rate, monitor->rules.sv.count, monitor->cb_reservations.cb_ref.octets,
+        monitor->cb_reservations.cb_ref.lens, monitor->cb_reservations.is_goose, monitor->cb_reservations.active,
+        monitor->cb_reservations.bound, monitor->cb_reservations.bound_src_mac, monitor->time_trackers.src_mac,
+        monitor->time_trackers.last_t_seconds, monitor->time_trackers.last_t_fraction, monitor->time_trackers.ageing.active,
+        monitor->time_trackers.ageing.last_used, &monitor->time_trackers.ageing.tick, monitor->sv_seq.svid.octets,
+        monitor->sv_seq.svid.lens, monitor->sv_seq.last_smp_cnt, monitor->sv_seq.ageing.active,
+        monitor->sv_seq.ageing.last_used, &monitor->sv_seq.ageing.tick, &monitor->totals.sv_total_inspected,
+        &monitor->totals.next_alert_id, &monitor->totals.total_alerts);
+}
+
+/* The frame in the octets of an SV frame as it was on the wire, and the error's number; a frame of zeros beside an error. */
+typedef struct {
+    mokyndu_sv_frame frame;
+    uint8_t error;
+} mokyndu_parsed; /* 168 */
+
+mokyndu_parsed mokyndu_parse_sv(const uint8_t *octets, size_t len, uint64_t timestamp_us);
+
 /* ---- many SV frames in one call: the monitor in and out once, 6272 octets each way */
 
-/* A batch writes eight octets for each frame: allowed, the number of alerts (at most three), then the code and the severity of each
-   alert, 0 and 0 where there is none. The first alert of a batch has the number mokyndu_total_alerts of the monitor handed in, plus 1,
+/* A batch writes a verdict of eight octets, as above, for each frame. The first alert of a batch has the number mokyndu_total_alerts of the monitor handed in, plus 1,
    and the numbers run on from frame to frame; an alert's time and source number are its frame's time and count. */
-#define MOKYNDU_VERDICT_LEN 8
 
 /* The monitor after the frames, an array of mokyndu_sv_frame handed over as octets (frames_len: its size in octets), with their verdicts
    in their order. Whole frames are inspected, as long as there is room for their verdicts: the lesser of frames_len / 160 and

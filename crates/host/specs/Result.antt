@@ -3,6 +3,7 @@ use mathlib.Core.List.{List, map}
 use Rattle.records.specs.declared.alert.CodedAlert.{CodedAlert}
 use Rattle.records.specs.declared.result.InspectResult.{InspectResult}
 use Rattle.records.specs.Alert.{severityNumber, codeNumber}
+use Rattle.wire.specs.declared.sv.ParsedSv.{ParsedSv}
 use Rattle.inspection.specs.declared.monitor.Configured.{Configured}
 use Rattle.inspection.specs.declared.monitor.Inspected.{Inspected}
 use Rattle.inspection.specs.declared.monitor.RawInspected.{RawInspected}
@@ -11,6 +12,7 @@ use Rattle.host.specs.declared.result.HostResult.{HostResult}
 use Rattle.host.specs.declared.result.HostConfigured.{HostConfigured}
 use Rattle.host.specs.declared.result.HostInspected.{HostInspected}
 use Rattle.host.specs.declared.result.HostRawInspected.{HostRawInspected}
+use Rattle.host.specs.declared.result.HostParsed.{HostParsed}
 use Rattle.host.specs.Flag.{flagNumber, addedError, parsedError}
 
 -- an alert with its severity and its code as numbers
@@ -49,3 +51,7 @@ hostInspected i = record { monitor = i .monitor; result = hostResult (i .result)
 abbrev pub hostRawInspected : RawInspected → HostRawInspected
 hostRawInspected i =
     record { monitor = i .monitor; result = hostResult (i .result); error = parsedError (i .answer) }
+
+-- the frame read from octets, and the error's number
+abbrev pub hostParsed : ParsedSv → HostParsed
+hostParsed p = record { frame = p .frame; error = parsedError (p .answer) }

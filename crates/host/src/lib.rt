@@ -2,6 +2,7 @@
 // Their C declarations stand in include/mokyndu.h.
 pub mod flag;
 pub mod frame;
+pub mod in_place;
 pub mod inspect;
 pub mod result;
 pub mod setting;

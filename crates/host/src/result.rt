@@ -9,6 +9,7 @@ use inspection::monitor::Iec61850Monitor;
 use inspection::monitor::Inspected;
 use inspection::monitor::RawInspected;
 use records::alert::CodedAlert;
+use records::frame::SvFrame;
 use records::result::InspectResult;
 
 // An alert, with its severity, 0 to 4, and its code, 0 to 42, by number.
@@ -52,6 +53,19 @@ pub struct HostInspected {
 pub struct HostRawInspected {
     pub monitor: Iec61850Monitor,
     pub result: HostResult,
+    pub error: u8,
+}
+
+// A verdict as eight octets: allowed, the number of alerts, and the code and the severity of each of up to three.
+#[repr(C)]
+pub struct HostVerdict {
+    pub octets: [u8; 8],
+}
+
+// The frame read from octets, and the error's number, 255 where it was read.
+#[repr(C)]
+pub struct HostParsed {
+    pub frame: SvFrame,
     pub error: u8,
 }
 
