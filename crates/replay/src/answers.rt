@@ -109,9 +109,10 @@ fn put_alert_kind(line: &mut [u8], at: usize, slot: CodedAlert) -> usize
     let alert = slot.alert;
     let code = slot.code;
     let severity = alert.severity;
-    let name = code_name(code);
+    let number = code.code();
+    let name = code_name(number);
     let word = severity_name(severity);
-    let start = put_number(line, at, b" [", code.code() as u64);
+    let start = put_number(line, at, b" [", number as u64);
     let middle = put_name(line, start, &name);
     put_name(line, middle, &word)
 }
@@ -146,6 +147,17 @@ fn put_alerts(line: &mut [u8], at: usize, result: InspectResult) -> usize
     end
 }
 
+// Puts the alerts of a result. Most results have none, and are not copied then.
+fn put_any_alerts(line: &mut [u8], at: usize, result: InspectResult) -> usize
+    requires { ⌜ at ≤ length (now line) ⌝ }
+    ensures { λ r. ⌜ Counts r (now (line .exit)) ⌝ }
+{
+    if result.alert_count == 0 {
+        return at;
+    }
+    put_alerts(line, at, result)
+}
+
 // Puts whether a frame is allowed.
 fn put_verdict(line: &mut [u8], at: usize, allowed: bool) -> usize
     requires { ⌜ at ≤ length (now line) ⌝ }
@@ -166,7 +178,7 @@ pub fn put_result(line: &mut [u8], at: usize, result: InspectResult) -> usize
     let mut end = put_verdict(line, at, result.allowed);
     end = put_number(line, end, b" source ", result.source_type as u64);
     end = put_number(line, end, b" alerts ", result.alert_count as u64);
-    end = put_alerts(line, end, result);
+    end = put_any_alerts(line, end, result);
     end = put_flag(line, end, b" unused ", unused);
     put_flag(line, end, b" truncated ", result.alerts_truncated)
 }
@@ -297,6 +309,17 @@ pub fn readings(m: Iec61850Monitor) -> MonitorReadings {
         sv: m.sv_total_inspected(),
         alerts: m.total_alerts(),
         strict: m.strict_mode(),
+    }
+}
+
+// The same of a monitor whose totals stand by themselves.
+pub fn totals_read(mms: u64, goose: u64, sv: u64, alerts: u64, strict: bool) -> MonitorReadings {
+    MonitorReadings {
+        mms: mms,
+        goose: goose,
+        sv: sv,
+        alerts: alerts,
+        strict: strict,
     }
 }
 

@@ -2,13 +2,31 @@
 // that no sum of places overflows.
 ghost use Prim.Native.Nat.{_+_, _≤_};
 ghost use lib.ListN.{length};
+use crate::values::wide;
 use wire::number::least;
 use wire::number::octet_at;
 
-// The number in n of the octets from a place on, most significant first; the last eight count.
+// The number in n of the octets from a place on, which the record has.
+fn whole_number_at(call: &[u8], at: usize, n: usize) -> u64
+    requires { ⌜ at + n ≤ length (now call) ⌝ }
+{
+    let mut value: u64 = 0;
+    let mut i: usize = 0;
+    while i < n {
+        value = (value << 8) | wide(call[at + i]);
+        i += 1;
+    }
+    value
+}
+
+// The number in n of the octets from a place on, most significant first; the last eight count. A record has them all: then none is
+// tested for itself.
 fn number_at(call: &[u8], at: usize, n: usize) -> u64
     requires { ⌜ at + n ≤ 1024 ⌝ }
 {
+    if at + n <= call.len() {
+        return whole_number_at(call, at, n);
+    }
     let mut value: u64 = 0;
     let mut i: usize = 0;
     while i < n {
@@ -41,10 +59,25 @@ pub fn flag_at(call: &[u8], at: usize) -> bool {
     octet_at(call, at) != 0
 }
 
-// Fills a part with the octets from a place on.
+// Fills a part with the octets from a place on, which the record has.
+fn whole_octets_at(call: &[u8], at: usize, part: &mut [u8])
+    requires { ⌜ at + length (now part) ≤ length (now call) ⌝ }
+{
+    let mut i: usize = 0;
+    while i < part.len() {
+        part[i] = call[at + i];
+        i += 1;
+    }
+}
+
+// Fills a part with the octets from a place on. A record has them all: then none is tested for itself.
 fn octets_at(call: &[u8], at: usize, part: &mut [u8])
     requires { ⌜ at + length (now part) ≤ 1024 ⌝ }
 {
+    if at + part.len() <= call.len() {
+        whole_octets_at(call, at, part);
+        return;
+    }
     let mut i: usize = 0;
     while i < part.len() {
         part[i] = octet_at(call, at + i);

@@ -6,9 +6,7 @@ ghost use Rattle.io.specs.Counts.{Counts};
 use crate::answers::put_added;
 use crate::answers::put_bucket;
 use crate::answers::put_parsed;
-use crate::answers::put_raw_result;
 use crate::answers::put_readings;
-use crate::answers::put_result;
 use crate::answers::put_service;
 use crate::answers::readings;
 use crate::arguments::flag_at;
@@ -23,7 +21,6 @@ use crate::text::put_number;
 use crate::text::put_octets;
 use inspection::monitor::Configured;
 use inspection::monitor::Iec61850Monitor;
-use inspection::monitor::Inspected;
 use records::bucket::RateBucket;
 use records::frame::GooseFrame;
 use records::frame::MmsFrame;
@@ -62,7 +59,7 @@ fn schedule(call: &[u8]) -> RetxSchedule {
 }
 
 // The frame of call 13: service, raw number, stated length, name, invoke id, time, client, kind.
-fn mms_frame(call: &[u8]) -> MmsFrame {
+pub fn mms_frame(call: &[u8]) -> MmsFrame {
     MmsFrame {
         service_type: MmsServiceType::from_u8(octet_at(call, 1)),
         raw_service_type: octet_at(call, 2),
@@ -76,7 +73,7 @@ fn mms_frame(call: &[u8]) -> MmsFrame {
 }
 
 // The frame of call 14: address, stated length, name, stNum, sqNum, test, time, clock.
-fn goose_frame(call: &[u8]) -> GooseFrame {
+pub fn goose_frame(call: &[u8]) -> GooseFrame {
     GooseFrame {
         src_mac: mac_at(call, 1),
         go_cb_ref: name_at(call, 8),
@@ -91,7 +88,7 @@ fn goose_frame(call: &[u8]) -> GooseFrame {
 }
 
 // The frame of call 15: address, stated length, svID, smpCnt, rate, stated length, data set, time, clock.
-fn sv_frame(call: &[u8]) -> SvFrame {
+pub fn sv_frame(call: &[u8]) -> SvFrame {
     SvFrame {
         src_mac: mac_at(call, 1),
         svid_len: octet_at(call, 7),
@@ -150,44 +147,6 @@ fn make_addition(m: Iec61850Monitor, number: u8, call: &[u8], line: &mut [u8], a
     let answer = configured.answer;
     let end = put_added(line, at, answer);
     let monitor = configured.monitor;
-    with_totals(monitor, line, end)
-}
-
-// The monitor after one of the calls 13 to 15, with its result.
-fn inspect(m: Iec61850Monitor, number: u8, call: &[u8]) -> Inspected {
-    match number {
-        13 => m.inspect_mms(mms_frame(call)),
-        14 => m.inspect_goose(goose_frame(call)),
-        _ => m.inspect_sv(sv_frame(call)),
-    }
-}
-
-// One of the calls 13 to 15.
-fn make_inspection(m: Iec61850Monitor, number: u8, call: &[u8], line: &mut [u8], at: usize) -> Step
-    requires { ⌜ at ≤ length (now line) ⌝ }
-    ensures { λ r. ⌜ Counts (r .end) (now (line .exit)) ⌝ }
-{
-    let inspected = inspect(m, number, call);
-    let result = inspected.result;
-    let end = put_result(line, at, result);
-    let monitor = inspected.monitor;
-    with_totals(monitor, line, end)
-}
-
-// Call 16: time, and the octets of the frame. What was read of it stands before the result.
-fn make_raw_inspection(m: Iec61850Monitor, call: &[u8], line: &mut [u8], at: usize) -> Step
-    requires { ⌜ at ≤ length (now line) ⌝ }
-    ensures { λ r. ⌜ Counts (r .end) (now (line .exit)) ⌝ }
-{
-    let octets = rest_at(call, 9);
-    let time = u64_at(call, 1);
-    let parsed = parse_sv(octets, time);
-    let frame = parsed.frame;
-    let inspected = m.inspect_raw_sv(octets, time);
-    let answer = inspected.answer;
-    let result = inspected.result;
-    let end = put_raw_result(line, at, answer, frame, result);
-    let monitor = inspected.monitor;
     with_totals(monitor, line, end)
 }
 
@@ -256,7 +215,7 @@ fn make_bucket_call(m: Iec61850Monitor, call: &[u8], line: &mut [u8], at: usize)
     with_totals(m, line, end)
 }
 
-// Makes a call and puts its line.
+// Makes a call that is no inspection, and puts its line.
 pub fn make_call(m: Iec61850Monitor, call: &[u8], line: &mut [u8], at: usize) -> Step
     requires { ⌜ at ≤ length (now line) ⌝ }
     ensures { λ r. ⌜ Counts (r .end) (now (line .exit)) ⌝ }
@@ -264,8 +223,6 @@ pub fn make_call(m: Iec61850Monitor, call: &[u8], line: &mut [u8], at: usize) ->
     let number = octet_at(call, 0);
     match number {
         10 | 11 | 12 => make_addition(m, number, call, line, at),
-        13 | 14 | 15 => make_inspection(m, number, call, line, at),
-        16 => make_raw_inspection(m, call, line, at),
         17 => make_service(m, call, line, at),
         18 => make_interval(m, call, line, at),
         19 => make_parsing(m, call, line, at),

@@ -29,6 +29,19 @@ fn within(input: Input, n: usize) -> Input
     }
 }
 
+// Whether there is a line feed in the 16 octets from a place on. All are looked at, so that they can be at once.
+fn has_line_feed(buffer: &[u8], at: usize) -> bool
+    requires { ⌜ at + 16 ≤ length (now buffer) ⌝ }
+{
+    let mut found = false;
+    let mut i: usize = 0;
+    while i < 16 {
+        found = found | (buffer[at + i] == b'\n');
+        i += 1;
+    }
+    found
+}
+
 // The place of the first line feed between two places, the second if there is none.
 fn line_feed(buffer: &[u8], from: usize, to: usize) -> usize
     requires { ⌜ from ≤ to ⌝ }
@@ -36,6 +49,9 @@ fn line_feed(buffer: &[u8], from: usize, to: usize) -> usize
     ensures { λ r. ⌜ (from ≤ r) × (r ≤ to) ⌝ }
 {
     let mut i = from;
+    while to - i >= 16 && !has_line_feed(buffer, i) {
+        i += 16;
+    }
     while i < to && buffer[i] != b'\n' {
         i += 1;
     }

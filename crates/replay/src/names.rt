@@ -3,8 +3,7 @@ ghost use Prim.Native.Nat.{_≤_};
 ghost use lib.ListN.{length};
 ghost use Rattle.io.specs.Counts.{Counts};
 use crate::text::put_octets;
-use crate::words::word_end;
-use records::alert::AlertCode;
+use crate::words::short_word_end;
 use records::alert::AlertSeverity;
 
 pub fn severity_name(severity: AlertSeverity) -> [u8; 8] {
@@ -17,52 +16,66 @@ pub fn severity_name(severity: AlertSeverity) -> [u8; 8] {
     }
 }
 
-pub fn code_name(code: AlertCode) -> [u8; 24] {
-    match code {
-        AlertCode::Unspecified => *b"Unspecified             ",
-        AlertCode::CrcFailure => *b"CrcFailure              ",
-        AlertCode::WriteProtection => *b"WriteProtection         ",
-        AlertCode::ReplayDetected => *b"ReplayDetected          ",
-        AlertCode::RateExceeded => *b"RateExceeded            ",
-        AlertCode::FloodAbuse => *b"FloodAbuse              ",
-        AlertCode::PolicyViolation => *b"PolicyViolation         ",
-        AlertCode::UnknownFunctionCode => *b"UnknownFunctionCode     ",
-        AlertCode::DiagnosticBlocked => *b"DiagnosticBlocked       ",
-        AlertCode::EndpointBlocked => *b"EndpointBlocked         ",
-        AlertCode::SecurityModeViolation => *b"SecurityModeViolation   ",
-        AlertCode::SessionAnomaly => *b"SessionAnomaly          ",
-        AlertCode::AlarmFlood => *b"AlarmFlood              ",
-        AlertCode::SequenceAnomaly => *b"SequenceAnomaly         ",
-        AlertCode::PayloadOverflow => *b"PayloadOverflow         ",
-        AlertCode::InvalidProtocol => *b"InvalidProtocol         ",
-        AlertCode::NoMatchingRule => *b"NoMatchingRule          ",
-        AlertCode::MessageTypeBlocked => *b"MessageTypeBlocked      ",
-        AlertCode::ProviderStateChange => *b"ProviderStateChange     ",
-        AlertCode::DcpBlocked => *b"DcpBlocked              ",
-        AlertCode::MessageSizeExceeded => *b"MessageSizeExceeded     ",
-        AlertCode::AddressViolation => *b"AddressViolation        ",
-        AlertCode::UnknownSession => *b"UnknownSession          ",
-        AlertCode::ResourceExhausted => *b"ResourceExhausted       ",
-        AlertCode::ObjectAccessDenied => *b"ObjectAccessDenied      ",
-        AlertCode::CipServiceBlocked => *b"CipServiceBlocked       ",
-        AlertCode::SvReplay => *b"SvReplay                ",
-        AlertCode::SvRateAnomaly => *b"SvRateAnomaly           ",
-        AlertCode::IedMismatch => *b"IedMismatch             ",
-        AlertCode::CbHijack => *b"CbHijack                ",
-        AlertCode::RetransmissionAnomaly => *b"RetransmissionAnomaly   ",
-        AlertCode::TimeSyncSpoofing => *b"TimeSyncSpoofing        ",
-        AlertCode::ClockRegression => *b"ClockRegression         ",
-        AlertCode::UnitNotAllowed => *b"UnitNotAllowed          ",
-        AlertCode::InvalidUnitId => *b"InvalidUnitId           ",
-        AlertCode::TxIdReplay => *b"TxIdReplay              ",
-        AlertCode::BadLinkCrc => *b"BadLinkCrc              ",
-        AlertCode::TransportSeqAnomaly => *b"TransportSeqAnomaly     ",
-        AlertCode::SaDowngrade => *b"SaDowngrade             ",
-        AlertCode::IinFlagSpoofing => *b"IinFlagSpoofing         ",
-        AlertCode::ForeignDevice => *b"ForeignDevice           ",
-        AlertCode::NpduLoop => *b"NpduLoop                ",
-        AlertCode::BroadcastFlood => *b"BroadcastFlood          ",
+// The names of the alert codes by their numbers, each in 24 octets. One text is proved faster than a `match` with as many arms.
+const CODE_NAMES: [u8; 1032] = *b"\
+    Unspecified             \
+    CrcFailure              \
+    WriteProtection         \
+    ReplayDetected          \
+    RateExceeded            \
+    FloodAbuse              \
+    PolicyViolation         \
+    UnknownFunctionCode     \
+    DiagnosticBlocked       \
+    EndpointBlocked         \
+    SecurityModeViolation   \
+    SessionAnomaly          \
+    AlarmFlood              \
+    SequenceAnomaly         \
+    PayloadOverflow         \
+    InvalidProtocol         \
+    NoMatchingRule          \
+    MessageTypeBlocked      \
+    ProviderStateChange     \
+    DcpBlocked              \
+    MessageSizeExceeded     \
+    AddressViolation        \
+    UnknownSession          \
+    ResourceExhausted       \
+    ObjectAccessDenied      \
+    CipServiceBlocked       \
+    SvReplay                \
+    SvRateAnomaly           \
+    IedMismatch             \
+    CbHijack                \
+    RetransmissionAnomaly   \
+    TimeSyncSpoofing        \
+    ClockRegression         \
+    UnitNotAllowed          \
+    InvalidUnitId           \
+    TxIdReplay              \
+    BadLinkCrc              \
+    TransportSeqAnomaly     \
+    SaDowngrade             \
+    IinFlagSpoofing         \
+    ForeignDevice           \
+    NpduLoop                \
+    BroadcastFlood          ";
+
+// The name of an alert code's number; there are 43.
+pub fn code_name(number: u8) -> [u8; 24] {
+    let mut name = [b' '; 24];
+    if number > 42 {
+        return name;
     }
+    let names = CODE_NAMES;
+    let start = 24 * (number as usize);
+    let mut i: usize = 0;
+    while i < 24 {
+        name[i] = names[start + i];
+        i += 1;
+    }
+    name
 }
 
 // Puts a space and a name into a line, from a place on, and answers the place behind it.
@@ -70,7 +83,7 @@ pub fn put_name(line: &mut [u8], at: usize, name: &[u8]) -> usize
     requires { ⌜ at ≤ length (now line) ⌝ }
     ensures { λ r. ⌜ Counts r (now (line .exit)) ⌝ }
 {
-    let n = word_end(name, 0);
+    let n = short_word_end(name, 0);
     let start = put_octets(line, at, b" ");
     put_octets(line, start, &name[0..n])
 }

@@ -1,15 +1,26 @@
 // Stores an argument in the record of a call, by its kind. Each function takes the word and the place in the call, and answers the
 // place behind what it stored; numbers stand most significant octet first.
-ghost use Prim.Native.Nat.{_≤_};
+ghost use Prim.Native.Nat.{_+_, _≤_};
 ghost use lib.ListN.{length};
 use crate::text::put_octets;
+use crate::values::Digits;
 use crate::values::Number;
 use crate::values::decimal;
+use crate::values::digits_at;
 use crate::values::name_start;
 use crate::values::word_octets;
+use crate::words::ends_at;
+use crate::words::word_end;
 
 // The place behind the argument, and whether the word is as it must be.
 pub struct Stored {
+    pub end: usize,
+    pub good: bool,
+}
+
+// The same, and the place behind the argument in its line.
+pub struct Argument {
+    pub from: usize,
     pub end: usize,
     pub good: bool,
 }
@@ -34,44 +45,94 @@ fn put_good(octets: &[u8], call: &mut [u8], at: usize) -> Stored
     }
 }
 
-// The largest number of so many octets.
-fn largest(n: usize) -> u64 {
-    match n {
-        1 => 0xff,
-        2 => 0xffff,
-        4 => 0xffff_ffff,
-        _ => 0xffff_ffff_ffff_ffff,
-    }
-}
-
-// The eight octets of a number.
-fn octets_of(number: u64) -> [u8; 8] {
-    let mut out = [0u8; 8];
+// Stores the eight octets of a number.
+fn put_wide(number: u64, call: &mut [u8], at: usize)
+    requires { ⌜ at + 8 ≤ length (now call) ⌝ }
+{
     let mut rest = number;
-    let mut i: usize = 8;
-    while i > 0 {
-        i -= 1;
-        out[i] = (rest % 256) as u8;
-        rest = rest / 256;
+    let mut i: usize = 0;
+    while i < 8 {
+        call[at + i] = ((rest >> 56) % 256) as u8;
+        rest = rest << 8;
+        i += 1;
     }
-    out
 }
 
-// A number of n octets.
-fn store_number(word: &[u8], n: usize, call: &mut [u8], at: usize) -> Stored
-    requires { ⌜ n ≤ 8 ⌝ }
+// Stores a number of n octets. Eight are always written, since that is one store: what the record has next takes the place of those
+// behind the number.
+fn put_value(number: u64, n: usize, call: &mut [u8], at: usize) -> Stored
+    requires { ⌜ (1 ≤ n) × (n ≤ 8) ⌝ }
+    requires { ⌜ at ≤ length (now call) ⌝ }
+    ensures { λ r. ⌜ r .end ≤ length (now (call .exit)) ⌝ }
+{
+    let free = 64 - 8 * n;
+    let wide = number << free;
+    if wide >> free != number {
+        return malformed();
+    }
+    if call.len() - at < 8 {
+        return malformed();
+    }
+    put_wide(wide, call, at);
+    Stored {
+        end: at + n,
+        good: true,
+    }
+}
+
+// A number of n octets in a word of 20 digits or more.
+fn store_long_number(word: &[u8], n: usize, call: &mut [u8], at: usize) -> Stored
+    requires { ⌜ (1 ≤ n) × (n ≤ 8) ⌝ }
     requires { ⌜ at ≤ length (now call) ⌝ }
     ensures { λ r. ⌜ r .end ≤ length (now (call .exit)) ⌝ }
 {
     let Number::Value(number) = decimal(word) else {
         return malformed();
     };
-    if number > largest(n) {
+    put_value(number, n, call, at)
+}
+
+// A number of n octets, from the digits between two places of a line.
+fn store_digits(
+    line: &[u8],
+    word: usize,
+    read: Digits,
+    n: usize,
+    call: &mut [u8],
+    at: usize,
+) -> Stored
+    requires { ⌜ (word ≤ read .end) × (read .end ≤ length (now line)) ⌝ }
+    requires { ⌜ (1 ≤ n) × (n ≤ 8) ⌝ }
+    requires { ⌜ at ≤ length (now call) ⌝ }
+    ensures { λ r. ⌜ r .end ≤ length (now (call .exit)) ⌝ }
+{
+    let end = read.end;
+    if end == word {
         return malformed();
     }
-    let all = octets_of(number);
-    let first = 8 - n;
-    put_good(&all[first..], call, at)
+    if !ends_at(line, end) {
+        return malformed();
+    }
+    if end - word > 19 {
+        return store_long_number(&line[word..end], n, call, at);
+    }
+    put_value(read.value, n, call, at)
+}
+
+// A number of n octets, whose word begins at a place of a line.
+fn store_number(line: &[u8], word: usize, n: usize, call: &mut [u8], at: usize) -> Argument
+    requires { ⌜ word ≤ length (now line) ⌝ }
+    requires { ⌜ (1 ≤ n) × (n ≤ 8) ⌝ }
+    requires { ⌜ at ≤ length (now call) ⌝ }
+    ensures { λ r. ⌜ (r .from ≤ length (now (line .entry))) × (r .end ≤ length (now (call .exit))) ⌝ }
+{
+    let read = digits_at(line, word);
+    let stored = store_digits(line, word, read, n, call, at);
+    Argument {
+        from: read.end,
+        end: stored.end,
+        good: stored.good,
+    }
 }
 
 // A flag, as the octet 0 or 1.
@@ -94,15 +155,21 @@ fn store_address(word: &[u8], call: &mut [u8], at: usize) -> Stored
     requires { ⌜ at ≤ length (now call) ⌝ }
     ensures { λ r. ⌜ r .end ≤ length (now (call .exit)) ⌝ }
 {
-    let mut address = [0u8; 6];
-    let read = word_octets(word, &mut address);
+    if call.len() - at < 6 {
+        return malformed();
+    }
+    let end = at + 6;
+    let read = word_octets(word, &mut call[at..end]);
     if !read.good {
         return malformed();
     }
     if read.count != 6 {
         return malformed();
     }
-    put_good(&address, call, at)
+    Stored {
+        end: end,
+        good: true,
+    }
 }
 
 // The length that a name states before its octets, which begin at `start`; without one, how many they are.
@@ -116,14 +183,30 @@ fn stated_len(word: &[u8], start: usize, count: usize) -> Number
     decimal(&word[0..end])
 }
 
+// Clears the 64 octets from a place on.
+fn clear_name(call: &mut [u8], at: usize)
+    requires { ⌜ at + 64 ≤ length (now call) ⌝ }
+{
+    let mut i: usize = 0;
+    while i < 64 {
+        call[at + i] = 0;
+        i += 1;
+    }
+}
+
 // A name: its stated length, and 64 octets.
 fn store_name(word: &[u8], call: &mut [u8], at: usize) -> Stored
     requires { ⌜ at ≤ length (now call) ⌝ }
     ensures { λ r. ⌜ r .end ≤ length (now (call .exit)) ⌝ }
 {
-    let mut name = [0u8; 64];
+    if call.len() - at < 65 {
+        return malformed();
+    }
+    let first = at + 1;
+    let end = at + 65;
+    clear_name(call, first);
     let start = name_start(word);
-    let read = word_octets(&word[start..], &mut name);
+    let read = word_octets(&word[start..], &mut call[first..end]);
     if !read.good {
         return malformed();
     }
@@ -133,8 +216,11 @@ fn store_name(word: &[u8], call: &mut [u8], at: usize) -> Stored
     if len > 255 {
         return malformed();
     }
-    let middle = put_octets(call, at, &[len as u8]);
-    put_good(&name, call, middle)
+    put_octets(call, at, &[len as u8]);
+    Stored {
+        end: end,
+        good: true,
+    }
 }
 
 // Octets, as many as there are.
@@ -149,19 +235,56 @@ fn store_octets(word: &[u8], call: &mut [u8], at: usize) -> Stored
     }
 }
 
-// An argument of a kind, which the table of `script` has.
-pub fn store_argument(kind: u8, word: &[u8], call: &mut [u8], at: usize) -> Stored
+// An argument of a kind that is no number's.
+fn store_word(kind: u8, word: &[u8], call: &mut [u8], at: usize) -> Stored
     requires { ⌜ at ≤ length (now call) ⌝ }
     ensures { λ r. ⌜ r .end ≤ length (now (call .exit)) ⌝ }
 {
     match kind {
-        b'1' => store_number(word, 1, call, at),
-        b'2' => store_number(word, 2, call, at),
-        b'4' => store_number(word, 4, call, at),
-        b'8' => store_number(word, 8, call, at),
         b'f' => store_flag(word, call, at),
         b'm' => store_address(word, call, at),
         b'n' => store_name(word, call, at),
         _ => store_octets(word, call, at),
     }
+}
+
+// The same, of the word that begins at a place of a line.
+fn store_next_word(kind: u8, line: &[u8], word: usize, call: &mut [u8], at: usize) -> Argument
+    requires { ⌜ word ≤ length (now line) ⌝ }
+    requires { ⌜ at ≤ length (now call) ⌝ }
+    ensures { λ r. ⌜ (r .from ≤ length (now (line .entry))) × (r .end ≤ length (now (call .exit))) ⌝ }
+{
+    let end = word_end(line, word);
+    let stored = store_word(kind, &line[word..end], call, at);
+    Argument {
+        from: end,
+        end: stored.end,
+        good: stored.good,
+    }
+}
+
+// How many octets a number of a kind has, 0 if the kind is no number's.
+fn number_octets(kind: u8) -> usize
+    ensures { λ r. ⌜ r ≤ 8 ⌝ }
+{
+    match kind {
+        b'1' => 1,
+        b'2' => 2,
+        b'4' => 4,
+        b'8' => 8,
+        _ => 0,
+    }
+}
+
+// An argument of a kind, which the table of `script` has. Its word begins at a place of a line.
+pub fn store_argument(kind: u8, line: &[u8], word: usize, call: &mut [u8], at: usize) -> Argument
+    requires { ⌜ word ≤ length (now line) ⌝ }
+    requires { ⌜ at ≤ length (now call) ⌝ }
+    ensures { λ r. ⌜ (r .from ≤ length (now (line .entry))) × (r .end ≤ length (now (call .exit))) ⌝ }
+{
+    let n = number_octets(kind);
+    if n == 0 {
+        return store_next_word(kind, line, word, call, at);
+    }
+    store_number(line, word, n, call, at)
 }

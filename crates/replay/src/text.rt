@@ -1,33 +1,95 @@
 // Words, numbers and octets in a line of text. Each function takes the place in the line where it goes on, and answers the place behind
 // what it put.
-ghost use Prim.Native.Nat.{_≤_};
+ghost use Prim.Native.Nat.{_+_, _*_, _≤_};
 ghost use lib.ListN.{length};
 ghost use Rattle.io.specs.Counts.{Counts};
 use wire::number::least;
 
-// Puts octets into the line as they are, as many as there is room for.
-pub fn put_octets(line: &mut [u8], at: usize, octets: &[u8]) -> usize
+// Puts octets into the line, which has room for them.
+fn put_all(line: &mut [u8], at: usize, octets: &[u8]) -> usize
+    requires { ⌜ at + length (now octets) ≤ length (now line) ⌝ }
+    ensures { λ r. ⌜ Counts r (now (line .exit)) ⌝ }
+{
+    let mut i: usize = 0;
+    while i < octets.len() {
+        line[at + i] = octets[i];
+        i += 1;
+    }
+    at + i
+}
+
+// Puts the octets that the line has room for: not all of them.
+fn put_some(line: &mut [u8], at: usize, octets: &[u8]) -> usize
     requires { ⌜ at ≤ length (now line) ⌝ }
     ensures { λ r. ⌜ Counts r (now (line .exit)) ⌝ }
 {
     let n = least(octets.len(), line.len() - at);
-    let mut i: usize = 0;
-    while i < n {
-        line[at + i] = octets[i];
-        i += 1;
-    }
-    at + n
+    put_all(line, at, &octets[0..n])
 }
 
-// Puts a word and a number's decimal digits.
-pub fn put_number(line: &mut [u8], at: usize, word: &[u8], number: u64) -> usize
+// Puts octets into the line as they are, as many as there is room for. Where all fit, a word of the program's is put at once.
+pub fn put_octets(line: &mut [u8], at: usize, octets: &[u8]) -> usize
+    requires { ⌜ at ≤ length (now line) ⌝ }
+    ensures { λ r. ⌜ Counts r (now (line .exit)) ⌝ }
+{
+    if octets.len() > line.len() - at {
+        return put_some(line, at, octets);
+    }
+    put_all(line, at, octets)
+}
+
+// Puts the digits of a number at the end of `digits`, and answers where they begin.
+fn digits_of(number: u64, digits: &mut [u8; 20]) -> usize
+    ensures { λ r. ⌜ r ≤ 20 ⌝ }
+{
+    let mut rest = number;
+    let mut i: usize = 20;
+    while i > 0 && rest > 0 {
+        i -= 1;
+        digits[i] = 48 + (rest % 10) as u8;
+        rest = rest / 10;
+    }
+    i
+}
+
+// Copies n of the digits, from the first on, into the line.
+fn copy_digits(line: &mut [u8], at: usize, digits: &[u8; 20], first: usize, n: usize)
+    requires { ⌜ at + n ≤ length (now line) ⌝ }
+    requires { ⌜ first + n ≤ 20 ⌝ }
+{
+    let mut i: usize = 0;
+    while i < n {
+        line[at + i] = digits[first + i];
+        i += 1;
+    }
+}
+
+// Puts a number's decimal digits, as many as there is room for.
+fn put_digits(line: &mut [u8], at: usize, number: u64) -> usize
     requires { ⌜ at ≤ length (now line) ⌝ }
     ensures { λ r. ⌜ Counts r (now (line .exit)) ⌝ }
 {
     let mut digits = [0u8; 20];
-    let n = io::decimal(number, &mut digits);
+    let first = digits_of(number, &mut digits);
+    let n = least(20 - first, line.len() - at);
+    copy_digits(line, at, &digits, first, n);
+    at + n
+}
+
+// Puts a word and a number's decimal digits. Most numbers have one.
+pub fn put_number(line: &mut [u8], at: usize, word: &[u8], number: u64) -> usize
+    requires { ⌜ at ≤ length (now line) ⌝ }
+    ensures { λ r. ⌜ Counts r (now (line .exit)) ⌝ }
+{
     let start = put_octets(line, at, word);
-    put_octets(line, start, &digits[..n])
+    if number < 10 {
+        return put_octets(line, start, &[48 + number as u8]);
+    }
+    put_digits(line, start, number)
+}
+
+fn flag_digit(flag: bool) -> u8 {
+    if flag { b'1' } else { b'0' }
 }
 
 // Puts a word and 1 or 0.
@@ -36,10 +98,7 @@ pub fn put_flag(line: &mut [u8], at: usize, word: &[u8], flag: bool) -> usize
     ensures { λ r. ⌜ Counts r (now (line .exit)) ⌝ }
 {
     let start = put_octets(line, at, word);
-    if flag {
-        return put_octets(line, start, b"1");
-    }
-    put_octets(line, start, b"0")
+    put_octets(line, start, &[flag_digit(flag)])
 }
 
 // The hexadecimal digit of a number below 16.
@@ -59,12 +118,29 @@ fn put_octet(line: &mut [u8], at: usize, octet: u8) -> usize
     put_octets(line, at, &[hex_digit(octet / 16), hex_digit(octet % 16)])
 }
 
+// Puts each octet as two digits, for all of which the line has room.
+fn put_all_hex(line: &mut [u8], at: usize, octets: &[u8]) -> usize
+    requires { ⌜ at + 2 * length (now octets) ≤ length (now line) ⌝ }
+    ensures { λ r. ⌜ Counts r (now (line .exit)) ⌝ }
+{
+    let mut i: usize = 0;
+    while i < octets.len() {
+        line[at + 2 * i] = hex_digit(octets[i] / 16);
+        line[at + 2 * i + 1] = hex_digit(octets[i] % 16);
+        i += 1;
+    }
+    at + 2 * i
+}
+
 // Puts a space and each octet as two digits.
 pub fn put_hex(line: &mut [u8], at: usize, octets: &[u8]) -> usize
     requires { ⌜ at ≤ length (now line) ⌝ }
     ensures { λ r. ⌜ Counts r (now (line .exit)) ⌝ }
 {
     let mut end = put_octets(line, at, b" ");
+    if octets.len() <= (line.len() - end) / 2 {
+        return put_all_hex(line, end, octets);
+    }
     let mut i: usize = 0;
     while i < octets.len() {
         end = put_octet(line, end, octets[i]);

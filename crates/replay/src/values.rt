@@ -1,6 +1,8 @@
 // What a word says: a decimal number, or octets as hexadecimal digits or as text.
-ghost use Prim.Native.Nat.{_≤_};
+ghost use Prim.Native.Nat.{_+_, _≤_};
 ghost use lib.ListN.{length};
+use std::num::wrapping_add_u64;
+use wire::number::least;
 use wire::number::octet_at;
 
 pub enum Number {
@@ -21,6 +23,11 @@ fn malformed() -> Octets
         count: 0,
         good: false,
     }
+}
+
+// An octet as a number of 64 bits: a function, so that no proof but its own says that it is one.
+pub fn wide(octet: u8) -> u64 {
+    octet as u64
 }
 
 // A decimal digit's value, 10 if it is none.
@@ -69,6 +76,52 @@ pub fn decimal(word: &[u8]) -> Number {
     Number::Value(value)
 }
 
+// The digits that stand in a line from a place on: their number, which counts if they are at most 19, and the place behind them.
+pub struct Digits {
+    pub value: u64,
+    pub end: usize,
+}
+
+// Reads the digits from a place on. The sums wrap behind 64 bits, which 19 digits do not reach.
+pub fn digits_at(line: &[u8], at: usize) -> Digits
+    requires { ⌜ at ≤ length (now line) ⌝ }
+    ensures { λ r. ⌜ (at ≤ r .end) × (r .end ≤ length (now (line .entry))) ⌝ }
+{
+    let mut value: u64 = 0;
+    let mut i = at;
+    while i < line.len() && (line[i] ^ 48) <= 9 {
+        let tens = wrapping_add_u64(value << 3, value << 1);
+        value = wrapping_add_u64(tens, wide(line[i] ^ 48));
+        i += 1;
+    }
+    Digits {
+        value: value,
+        end: i,
+    }
+}
+
+// The octets of 16 pairs of hexadecimal digits, and whether all are such. None is left out of the loops, so that they can be read at once.
+fn hex_block(word: &[u8], at: usize, out: &mut [u8], to: usize) -> bool
+    requires { ⌜ at + 32 ≤ length (now word) ⌝ }
+    requires { ⌜ to + 16 ≤ length (now out) ⌝ }
+{
+    let mut values = [0u8; 32];
+    let mut most: u8 = 0;
+    let mut i: usize = 0;
+    while i < 32 {
+        let value = hex_value(word[at + i]);
+        values[i] = value;
+        most = most | value;
+        i += 1;
+    }
+    i = 0;
+    while i < 16 {
+        out[to + i] = (values[2 * i] << 4) | values[2 * i + 1];
+        i += 1;
+    }
+    most <= 15
+}
+
 // Octets as pairs of hexadecimal digits.
 fn hex_octets(word: &[u8], out: &mut [u8]) -> Octets
     ensures { λ r. ⌜ r .count ≤ length (now (out .exit)) ⌝ }
@@ -81,12 +134,18 @@ fn hex_octets(word: &[u8], out: &mut [u8]) -> Octets
         return malformed();
     }
     let mut i: usize = 0;
+    while n - i >= 16 {
+        if !hex_block(word, 2 * i, out, i) {
+            return malformed();
+        }
+        i += 16;
+    }
     while i < n {
         let high = hex_value(word[2 * i]);
-        let low = hex_value(word[2 * i + 1]);
         if high > 15 {
             return malformed();
         }
+        let low = hex_value(word[2 * i + 1]);
         if low > 15 {
             return malformed();
         }
@@ -159,15 +218,17 @@ pub fn word_octets(word: &[u8], out: &mut [u8]) -> Octets
     hex_octets(word, out)
 }
 
-// Where the octets of a name begin: behind the colon of its stated length, or at its start. Text may have a colon too.
+// Where the octets of a name begin: behind the colon of its stated length, or at its start. Text may have a colon too. No stated length
+// has more than 20 digits.
 pub fn name_start(word: &[u8]) -> usize
     ensures { λ r. ⌜ r ≤ length (now (word .entry)) ⌝ }
 {
     if octet_at(word, 0) == b'"' {
         return 0;
     }
+    let n = least(word.len(), 21);
     let mut i: usize = 0;
-    while i < word.len() {
+    while i < n {
         if word[i] == b':' {
             return i + 1;
         }

@@ -19,11 +19,17 @@ new-run-requires c κs = search needs
 loop-holds : tie.Need-loop-holds Inv-loop μ-loop
 loop-holds c = search needs
 
-next-call-requires : tie.Need-next-call-requires Inv-loop μ-loop
-next-call-requires c κs = search needs
+is-call-requires : tie.Need-is-call-requires Inv-loop μ-loop
+is-call-requires c κs = search needs
+
+make-inspections-requires : tie.Need-make-inspections-requires Inv-loop μ-loop
+make-inspections-requires c κs = search needs
 
 answer-call-requires : tie.Need-answer-call-requires Inv-loop μ-loop
 answer-call-requires c κs = search needs
+
+next-call-requires : tie.Need-next-call-requires Inv-loop μ-loop
+next-call-requires c κs = search needs
 
 sub-turns : tie.Need-sub-turns Inv-loop μ-loop
 sub-turns c = search needs
@@ -49,8 +55,10 @@ main-spec =
     new-requires
     new-run-requires
     loop-holds
-    next-call-requires
+    is-call-requires
+    make-inspections-requires
     answer-call-requires
+    next-call-requires
     sub-turns
     loop-less
     loop-again

@@ -1,5 +1,5 @@
--- `replay::arguments::number_at` is safe and ends. The loop's invariant: it has read at most n octets. The measure
--- is what is left of them. Assumes nothing.
+-- `replay::arguments::number_at` is safe and ends. The loop's invariant: it has read at most n octets. The measure is what is left of
+-- them. Assumes nothing.
 use Prim.Native.Nat.{_≤_, _-_}
 use borrow.Author.Needs.{needs}
 use Rattle.replay.proofs.arguments.number_at.Statement.{statement}
@@ -10,6 +10,15 @@ Inv-loop call at n value₀ i₀ value i = i ≤ n
 
 abbrev μ-loop : tie.MeasureT-loop
 μ-loop call at n value₀ i₀ value i = n - i
+
+add-if1 : tie.Need-add-if1 Inv-loop μ-loop
+add-if1 c = search needs
+
+whole-number-at-requires : tie.Need-whole-number-at-requires Inv-loop μ-loop
+whole-number-at-requires c κs = search needs
+
+returns : tie.Need-returns Inv-loop μ-loop
+returns c = search needs
 
 loop-holds : tie.Need-loop-holds Inv-loop μ-loop
 loop-holds c = search needs
@@ -32,8 +41,8 @@ loop-less c = search needs
 loop-again : tie.Need-loop-again Inv-loop μ-loop
 loop-again c = search needs
 
-returns : tie.Need-returns Inv-loop μ-loop
-returns c = search needs
+returns-2 : tie.Need-returns-2 Inv-loop μ-loop
+returns-2 c = search needs
 
 pub number-at-spec : {M : Type 1} → statement M
 number-at-spec =
@@ -41,6 +50,9 @@ number-at-spec =
     (tie.spec
     Inv-loop
     μ-loop
+    add-if1
+    whole-number-at-requires
+    returns
     loop-holds
     add-octet-at
     octet-at-requires
@@ -48,4 +60,4 @@ number-at-spec =
     add-i
     loop-less
     loop-again
-    returns)
+    returns-2)

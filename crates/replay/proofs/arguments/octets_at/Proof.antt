@@ -13,6 +13,18 @@ Inv-loop call at part₀ i₀ part i = (i ≤ length part₀) × (length part �
 abbrev μ-loop : tie.MeasureT-loop
 μ-loop call at part₀ i₀ part i = length part₀ - i
 
+add-if1 : tie.Need-add-if1 Inv-loop μ-loop
+add-if1 c = search needs
+
+whole-octets-at-requires : tie.Need-whole-octets-at-requires Inv-loop μ-loop
+whole-octets-at-requires c κs = search needs
+
+same-length : tie.Need-same-length Inv-loop μ-loop
+same-length c = search needs
+
+returns : tie.Need-returns Inv-loop μ-loop
+returns c = search needs
+
 loop-holds : tie.Need-loop-holds Inv-loop μ-loop
 loop-holds c = search needs
 
@@ -34,11 +46,11 @@ loop-less c = search needs
 loop-again : tie.Need-loop-again Inv-loop μ-loop
 loop-again c = search needs
 
-same-length : tie.Need-same-length Inv-loop μ-loop
-same-length c = search needs
+same-length-2 : tie.Need-same-length-2 Inv-loop μ-loop
+same-length-2 c = search needs
 
-returns : tie.Need-returns Inv-loop μ-loop
-returns c = search needs
+returns-2 : tie.Need-returns-2 Inv-loop μ-loop
+returns-2 c = search needs
 
 pub octets-at-spec : {M : Type 1} → statement M
 octets-at-spec =
@@ -46,6 +58,10 @@ octets-at-spec =
     (tie.spec
     Inv-loop
     μ-loop
+    add-if1
+    whole-octets-at-requires
+    same-length
+    returns
     loop-holds
     add-octet-at
     octet-at-requires
@@ -53,5 +69,5 @@ octets-at-spec =
     add-i
     loop-less
     loop-again
-    same-length
-    returns)
+    same-length-2
+    returns-2)

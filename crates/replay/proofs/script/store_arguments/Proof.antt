@@ -8,22 +8,22 @@ use Rattle.replay.proofs.script.store_arguments.Statement.{statement}
 use Rattle.replay.proofs.script.store_arguments.Tie as tie
 
 abbrev Inv-loop : tie.InvT-loop
-Inv-loop kinds line at call₀ start end₀ from₀ k₀ call end from k = (end ≤ length call) × (from ≤ length line) × (k ≤ length kinds) × (length call ≡ length call₀)
+Inv-loop kinds line at call₀ start end₀ from₀ k₀ call end from k = (end ≤ length call) × (from ≤ length line) × (k ≤ 8) × (length call ≡ length call₀)
 
 abbrev μ-loop : tie.MeasureT-loop
-μ-loop kinds line at call₀ start end₀ from₀ k₀ call end from k = length kinds - k
+μ-loop kinds line at call₀ start end₀ from₀ k₀ call end from k = 8 - k
 
 loop-holds : tie.Need-loop-holds Inv-loop μ-loop
 loop-holds c = search needs
 
-octet-at-requires : tie.Need-octet-at-requires Inv-loop μ-loop
-octet-at-requires c κs = search needs
+element-copy-out-if1 : tie.Need-element-copy-out-if1 Inv-loop μ-loop
+element-copy-out-if1 c = search needs
 
 word-start-requires : tie.Need-word-start-requires Inv-loop μ-loop
 word-start-requires c κs = search needs
 
-add-t16 : tie.Need-add-t16 Inv-loop μ-loop
-add-t16 c = search needs
+add-t18 : tie.Need-add-t18 Inv-loop μ-loop
+add-t18 c = search needs
 
 same-length : tie.Need-same-length Inv-loop μ-loop
 same-length c = search needs
@@ -31,20 +31,8 @@ same-length c = search needs
 returns : tie.Need-returns Inv-loop μ-loop
 returns c = search needs
 
-word-end-requires : tie.Need-word-end-requires Inv-loop μ-loop
-word-end-requires c κs = search needs
-
-shared-slice-read-store-argument : tie.Need-shared-slice-read-store-argument Inv-loop μ-loop
-shared-slice-read-store-argument c = search needs
-
-sub-store-argument : tie.Need-sub-store-argument Inv-loop μ-loop
-sub-store-argument c = search needs
-
-part-store-argument-start : tie.Need-part-store-argument-start Inv-loop μ-loop
-part-store-argument-start c = search needs
-
-part-store-argument-end : tie.Need-part-store-argument-end Inv-loop μ-loop
-part-store-argument-end c = search needs
+element-copy-out-store-argument : tie.Need-element-copy-out-store-argument Inv-loop μ-loop
+element-copy-out-store-argument c = search needs
 
 store-argument-requires : tie.Need-store-argument-requires Inv-loop μ-loop
 store-argument-requires c κs = search needs
@@ -92,16 +80,12 @@ store-arguments-spec =
     Inv-loop
     μ-loop
     loop-holds
-    octet-at-requires
+    element-copy-out-if1
     word-start-requires
-    add-t16
+    add-t18
     same-length
     returns
-    word-end-requires
-    shared-slice-read-store-argument
-    sub-store-argument
-    part-store-argument-start
-    part-store-argument-end
+    element-copy-out-store-argument
     store-argument-requires
     add-t24
     same-length-2

@@ -21,6 +21,18 @@ slice-aggregate-put-octets c = search needs
 put-octets-requires : tie.Need-put-octets-requires Inv-loop μ-loop
 put-octets-requires c κs = search needs
 
+sub-if1 : tie.Need-sub-if1 Inv-loop μ-loop
+sub-if1 c = search needs
+
+put-all-hex-requires : tie.Need-put-all-hex-requires Inv-loop μ-loop
+put-all-hex-requires c κs = search needs
+
+same-length : tie.Need-same-length Inv-loop μ-loop
+same-length c = search needs
+
+returns : tie.Need-returns Inv-loop μ-loop
+returns c = search needs
+
 loop-holds : tie.Need-loop-holds Inv-loop μ-loop
 loop-holds c = search needs
 
@@ -39,11 +51,11 @@ loop-less c = search needs
 loop-again : tie.Need-loop-again Inv-loop μ-loop
 loop-again c = search needs
 
-same-length : tie.Need-same-length Inv-loop μ-loop
-same-length c = search needs
+same-length-2 : tie.Need-same-length-2 Inv-loop μ-loop
+same-length-2 c = search needs
 
-returns : tie.Need-returns Inv-loop μ-loop
-returns c = counts _ _ (omega arith)
+returns-2 : tie.Need-returns-2 Inv-loop μ-loop
+returns-2 c = counts _ _ (omega arith)
 
 pub put-hex-spec : {M : Type 1} → statement M
 put-hex-spec =
@@ -53,11 +65,15 @@ put-hex-spec =
     μ-loop
     slice-aggregate-put-octets
     put-octets-requires
+    sub-if1
+    put-all-hex-requires
+    same-length
+    returns
     loop-holds
     shared-slice-read-put-octet
     put-octet-requires
     add-i
     loop-less
     loop-again
-    same-length
-    returns)
+    same-length-2
+    returns-2)

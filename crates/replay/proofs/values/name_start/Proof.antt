@@ -1,22 +1,24 @@
--- `replay::values::name_start` stays within the word. The loop's invariant: it has read at most the word. The measure is what is left
--- of it. Assumes nothing.
+-- `replay::values::name_start` stays within the word. The loop's invariant: it has read at most n octets. The measure is what is left
+-- of them. Assumes nothing.
 use Prim.Native.Nat.{_≤_, _-_}
-use lib.ListN.{length}
 use borrow.Author.Needs.{needs}
 use Rattle.replay.proofs.values.name_start.Statement.{statement}
 use Rattle.replay.proofs.values.name_start.Tie as tie
 
 abbrev Inv-loop : tie.InvT-loop
-Inv-loop word i₀ i = i ≤ length word
+Inv-loop word n i₀ i = i ≤ n
 
 abbrev μ-loop : tie.MeasureT-loop
-μ-loop word i₀ i = length word - i
+μ-loop word n i₀ i = n - i
 
 octet-at-requires : tie.Need-octet-at-requires Inv-loop μ-loop
 octet-at-requires c κs = search needs
 
 returns : tie.Need-returns Inv-loop μ-loop
 returns c = search needs
+
+least-requires : tie.Need-least-requires Inv-loop μ-loop
+least-requires c κs = search needs
 
 loop-holds : tie.Need-loop-holds Inv-loop μ-loop
 loop-holds c = search needs
@@ -50,6 +52,7 @@ name-start-spec =
     μ-loop
     octet-at-requires
     returns
+    least-requires
     loop-holds
     shared-slice-read-if2
     add-result

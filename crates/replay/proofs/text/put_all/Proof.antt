@@ -1,25 +1,19 @@
--- `replay::text::put_octets` stays within the line. The loop's invariant: it has put at most the n octets that there is room
--- for, and the line has kept its length. The measure is what is left of the n octets. Assumes nothing.
+-- `replay::text::put_all` stays within the line. The loop's invariant: it has put at most the octets, and the line has kept its length. The
+-- measure is what is left of the octets. Assumes nothing.
 use Prim.Native.Nat.{_≤_, _-_}
 use mathlib.Core.Path.{_≡_}
 use native.Mathlib.Omega.{arith}
 use lib.ListN.{length}
 use Rattle.io.proofs.Counting.{counts}
 use borrow.Author.Needs.{needs}
-use Rattle.replay.proofs.text.put_octets.Statement.{statement}
-use Rattle.replay.proofs.text.put_octets.Tie as tie
+use Rattle.replay.proofs.text.put_all.Statement.{statement}
+use Rattle.replay.proofs.text.put_all.Tie as tie
 
 abbrev Inv-loop : tie.InvT-loop
-Inv-loop line₀ at octets n i₀ line i = (i ≤ n) × (length line ≡ length line₀)
+Inv-loop line₀ at octets i₀ line i = (i ≤ length octets) × (length line ≡ length line₀)
 
 abbrev μ-loop : tie.MeasureT-loop
-μ-loop line₀ at octets n i₀ line i = n - i
-
-sub-least : tie.Need-sub-least Inv-loop μ-loop
-sub-least c = search needs
-
-least-requires : tie.Need-least-requires Inv-loop μ-loop
-least-requires c κs = search needs
+μ-loop line₀ at octets i₀ line i = length octets - i
 
 loop-holds : tie.Need-loop-holds Inv-loop μ-loop
 loop-holds c = search needs
@@ -51,14 +45,12 @@ same-length c = search needs
 returns : tie.Need-returns Inv-loop μ-loop
 returns c = counts _ _ (omega arith)
 
-pub put-octets-spec : {M : Type 1} → statement M
-put-octets-spec =
+pub put-all-spec : {M : Type 1} → statement M
+put-all-spec =
     tie.close
     (tie.spec
     Inv-loop
     μ-loop
-    sub-least
-    least-requires
     loop-holds
     shared-slice-read-line
     add-line

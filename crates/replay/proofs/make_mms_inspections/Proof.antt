@@ -1,0 +1,60 @@
+-- `make_mms_inspections` is safe and ends. The measure is the number of turns that are left; nothing has to hold from turn to turn.
+use native.Mathlib.Omega.{arith}
+use borrow.Author.Needs.{needs}
+use Rattle.replay.proofs.make_mms_inspections.Statement.{statement}
+use Rattle.replay.proofs.make_mms_inspections.Tie as tie
+
+abbrev Inv-loop : tie.InvT-loop
+Inv-loop m buffer₀ call₀ output₀ settings rules keys₀ tokens₀ capacity₀ last-refill-us₀ active₀ used₀ tick₀ cb-refs₀ cb-lens₀ cb-kinds₀ cb-owners₀ cb-bound₀ cb-macs₀ cb-active₀ total₀ next-alert-id₀ total-alerts₀ run₀ going₀ turns₀ buffer call output keys tokens capacity last-refill-us active used tick cb-refs cb-lens cb-kinds cb-owners cb-bound cb-macs cb-active total next-alert-id total-alerts run going turns =
+    Unit {0}
+
+abbrev μ-loop : tie.MeasureT-loop
+μ-loop m buffer₀ call₀ output₀ settings rules keys₀ tokens₀ capacity₀ last-refill-us₀ active₀ used₀ tick₀ cb-refs₀ cb-lens₀ cb-kinds₀ cb-owners₀ cb-bound₀ cb-macs₀ cb-active₀ total₀ next-alert-id₀ total-alerts₀ run₀ going₀ turns₀ buffer call output keys tokens capacity last-refill-us active used tick cb-refs cb-lens cb-kinds cb-owners cb-bound cb-macs cb-active total next-alert-id total-alerts run going turns =
+    turns
+
+is-call-requires : tie.Need-is-call-requires Inv-loop μ-loop
+is-call-requires c κs = search needs
+
+-- the beginning of the loop's body, from its end
+abbrev body : tie.After-is-call2 Inv-loop μ-loop → tie.In-loop Inv-loop μ-loop
+body c = c .before .before .before .before .before .before .before .before .before .before .before .before .before .before .before .before .before .before .before .before .before .before .before .before .before .before .before
+
+loop-holds : tie.Need-loop-holds Inv-loop μ-loop
+loop-holds c = search needs
+
+mms-line-requires : tie.Need-mms-line-requires Inv-loop μ-loop
+mms-line-requires c κs = search needs
+
+after-answer-requires : tie.Need-after-answer-requires Inv-loop μ-loop
+after-answer-requires c κs = search needs
+
+is-call-requires-2 : tie.Need-is-call-requires-2 Inv-loop μ-loop
+is-call-requires-2 c κs = search needs
+
+sub-turns : tie.Need-sub-turns Inv-loop μ-loop
+sub-turns c = omega (arith, body c .loop-test .taken)
+
+loop-less : tie.Need-loop-less Inv-loop μ-loop
+loop-less c = omega (arith, body c .loop-test .taken)
+
+loop-again : tie.Need-loop-again Inv-loop μ-loop
+loop-again c = search needs
+
+returns : tie.Need-returns Inv-loop μ-loop
+returns c = search needs
+
+pub make-mms-inspections-spec : {M : Type 1} → statement M
+make-mms-inspections-spec =
+    tie.close
+    (tie.spec
+    Inv-loop
+    μ-loop
+    is-call-requires
+    loop-holds
+    mms-line-requires
+    after-answer-requires
+    is-call-requires-2
+    sub-turns
+    loop-less
+    loop-again
+    returns)
