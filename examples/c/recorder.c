@@ -12,6 +12,7 @@ _Static_assert(sizeof(mokyndu_sv_frame) == 160, "the layout of SV frames");
 _Static_assert(sizeof(mokyndu_alert) == 56 && sizeof(mokyndu_result) == 232, "the layout of results");
 _Static_assert(sizeof(mokyndu_configured) == 6280 && sizeof(mokyndu_inspected) == 6504, "the layout of answers");
 _Static_assert(sizeof(mokyndu_raw_inspected) == 6512, "the layout of a raw frame's answer");
+_Static_assert(sizeof(mokyndu_verdict) == 8 && sizeof(mokyndu_parsed) == 168, "the layout of a verdict, and of a frame that was read");
 
 static const char *const severities[] = {"info", "low", "medium", "high", "critical"};
 static const uint8_t unit[6] = {2, 0, 0, 0, 0, 1}, stranger[6] = {2, 0, 0, 0, 0, 9};
@@ -77,7 +78,7 @@ static void sv_batch(uint16_t count, uint64_t time) {
                verdicts[k][2]);
 }
 
-/* A raw frame read, and then the next count and a replay, each in place: nothing of the monitor is copied. */
+/* A raw frame is read, given the next count, and inspected twice in place, the second time as a replay. */
 static void sv_in_place(const uint8_t *octets, size_t len, uint64_t time) {
     mokyndu_parsed p = mokyndu_parse_sv(octets, len, time);
     for (int k = 0; p.error == MOKYNDU_NO_ERROR && k < 2; k++) {

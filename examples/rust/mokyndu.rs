@@ -1,6 +1,6 @@
 // The exports of libhost.a for Rust; crates/host/include/mokyndu.h says what each call does and what it costs.
-// A monitor's fields are the engine's own: a caller makes a monitor with mokyndu_new and hands back what a call left. The flags among
-// them are 0 or 1.
+// A caller makes a monitor with mokyndu_new or mokyndu_new_strict, and only calls change it. Its fields are the engine's own; the flags
+// among them are 0 or 1.
 use std::mem::size_of;
 
 #[repr(C)]
@@ -207,6 +207,13 @@ pub struct Verdict {
     pub source_type: u8,
     pub alerts_truncated: u8,
     pub alerts: [Alert; 4],
+}
+
+impl Monitor {
+    // The number that the next alert will have.
+    pub fn next_alert_id(&self) -> u64 {
+        self.totals.next_alert_id
+    }
 }
 
 // Allowed, the number of alerts, then the code and the severity of each of up to three.

@@ -88,7 +88,7 @@ impl Recorder {
         }
     }
 
-    // A raw frame read, and then the next count and a replay, each in place: nothing of the monitor is copied.
+    // A raw frame is read, given the next count, and inspected twice in place, the second time as a replay.
     fn sv_in_place(&mut self, octets: &[u8], time: u64) {
         let parsed = unsafe { mokyndu_parse_sv(octets.as_ptr(), octets.len(), time) };
         if parsed.error != NO_ERROR {

@@ -117,8 +117,8 @@ enum {
     MOKYNDU_SERVICE_UNKNOWN = 255
 };
 
-/* ---- the monitor's parts. Every field is the engine's own: a caller makes a monitor with mokyndu_new or mokyndu_new_strict, and
-   hands back what a call returned, unchanged. The flags among them are 0 or 1, and no other number. */
+/* ---- the monitor's parts. A caller makes a monitor with mokyndu_new or mokyndu_new_strict, and only calls change it. A caller may read
+   the totals; every other field is the engine's own. The flags among them are 0 or 1, and no other number. */
 
 /* How GOOSE frames are repeated: microseconds, and the tolerance in percent. */
 typedef struct {
@@ -380,11 +380,15 @@ mokyndu_inspected mokyndu_inspect_sv(mokyndu_monitor monitor, mokyndu_sv_frame f
 /* An SV frame as it was on the wire, from the destination address on, and the time at which it was seen. */
 mokyndu_raw_inspected mokyndu_inspect_raw_sv(mokyndu_monitor monitor, const uint8_t *octets, size_t len, uint64_t timestamp_us);
 
-/* ---- a frame in place: the monitor is changed where it stands, and nothing of it is copied. The inline functions hand the addresses
-   of its columns to the exports, which read and write those columns only. The monitor is then the one that the call by value would return, and
-   the verdict its result in eight octets: allowed, the number of alerts (at most three), then the code and the severity of each
-   alert, 0 and 0 where there is none. The number of the last of these alerts is the monitor's totals.next_alert_id after the call, less 1.
-   The addresses must be those of one monitor's columns, which nothing else reads or writes during the call. */
+/* ---- a frame in place: the monitor is changed where it stands, and of it only the settings, and for MMS the rules, are copied. The inline
+   functions hand the addresses of its columns to the exports, which read and write those columns only. The monitor is then the one that
+   the call by value would return, and the verdict that of its result. The addresses must be those of one monitor's columns, which nothing
+   else reads or writes during the call. */
+
+/* A verdict is a result in eight octets: 0 is 1 for allowed and 0 for refused, 1 the number n of alerts, 0 to 3; 2 and 3 are code and
+   severity of the first alert, 4 and 5 of the second, 6 and 7 of the third, 0 where there is none. Go by n: code 0 and severity 0 are
+   values too. An alert's time and source number are its frame's time, and invoke id, stNum or smpCnt. Alert numbers run on by one, from
+   totals.next_alert_id of the monitor before the call, in a batch from frame to frame. */
 #define MOKYNDU_VERDICT_LEN 8
 
 typedef struct {
@@ -453,7 +457,8 @@ static inline mokyndu_verdict mokyndu_sv_in_place(mokyndu_monitor *monitor, moky
         &monitor->totals.next_alert_id, &monitor->totals.total_alerts);
 }
 
-/* The frame in the octets of an SV frame as it was on the wire, and the error's number; a frame of zeros beside an error. */
+/* The frame in the octets of an SV frame as it was on the wire, and the error's number; a frame of zeros beside an error. The time is that
+   at which it was seen. Out 168 octets. */
 typedef struct {
     mokyndu_sv_frame frame;
     uint8_t error;
@@ -462,9 +467,6 @@ typedef struct {
 mokyndu_parsed mokyndu_parse_sv(const uint8_t *octets, size_t len, uint64_t timestamp_us);
 
 /* ---- many SV frames in one call: the monitor in and out once, 6272 octets each way */
-
-/* A batch writes a verdict of eight octets, as above, for each frame. The first alert of a batch has the number mokyndu_total_alerts of the monitor handed in, plus 1,
-   and the numbers run on from frame to frame; an alert's time and source number are its frame's time and count. */
 
 /* The monitor after the frames, an array of mokyndu_sv_frame handed over as octets (frames_len: its size in octets), with their verdicts
    in their order. Whole frames are inspected, as long as there is room for their verdicts: the lesser of frames_len / 160 and
