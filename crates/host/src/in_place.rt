@@ -1,5 +1,5 @@
 // The inspections in place, for a recorder that keeps a monitor where it stands: an export takes the columns of a monitor by their
-// addresses, so that nothing of it is copied. The inline functions of include/mokyndu.h hand the addresses over.
+// addresses, so that of the monitor only the settings, and for MMS the rules, are copied. The inline functions of include/mokyndu.h hand the addresses over.
 ghost use mathlib.Core.Path.{_≡_};
 ghost use Rattle.records.specs.Verdict.{verdictOf};
 ghost use Rattle.wire.specs.Sv.{svFrame};

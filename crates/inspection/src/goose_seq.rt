@@ -24,7 +24,7 @@ pub struct GooseSeqTable {
     pub ageing: Ageing,
 }
 
-// The streams after a frame, and whether it is a replay.
+// The streams after a frame, and whether it is a replay; for the contracts.
 pub struct GooseChecked {
     pub table: GooseSeqTable,
     pub replay: bool,

@@ -142,8 +142,7 @@ fn goose_time_field<'a>(
     }
 }
 
-// The reservation of the control block, which may end the checking; then clock, retransmission and stream. The name is 64
-// octets, zeros behind its end.
+// The reservation of the control block, which may end the checking; then clock, retransmission and stream.
 fn goose_reservation<'a>(
     f: GooseFrame,
     settings: Settings,

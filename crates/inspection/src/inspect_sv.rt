@@ -1,5 +1,5 @@
 // The inspection of a sampled-values frame, carried over from industrial/iec61850-monitor/src/lib.rs of craton-shield
-// a31d888527 (Apache-2.0) and changed: the checks in stages, over lent columns; the alerts added at the end.
+// a31d888527 (Apache-2.0) and changed: the checks in a row, over lent columns; the alerts added at the end.
 ghost use Prim.Native.Nat.{ℕ};
 ghost use mathlib.Core.Path.{_≡_};
 ghost use mathlib.Core.Bool.{_&&_, not, cond};
@@ -106,7 +106,7 @@ pub fn rate_alert(replay: bool, frame_rate: u16, rate: u16) -> CheckAlert
     CheckAlert::Refusal(AlertSeverity::Medium, AlertCode::SvRateAnomaly)
 }
 
-// What the publishers say of a frame. Where there are none, no call is made.
+// What the publishers say of a frame. Where there are none, none is searched for.
 pub fn sv_rule<'a>(
     rule_macs: &'a [u64; 16],
     rule_svids: &'a [u8; 1024],
@@ -136,7 +136,7 @@ pub fn sv_rule<'a>(
 }
 
 // The use of the data set's reservation by a frame that the rules permit: whether it is bound to another address. A frame without a
-// data set costs no call.
+// data set is not looked up.
 pub fn sv_hijack_check<'a>(
     permitted: bool,
     cb_refs: &'a [u8; 1024],
@@ -179,7 +179,7 @@ pub fn goes_on(permitted: bool, hijack: bool) -> bool
     if permitted { !hijack } else { false }
 }
 
-// The clock check of a frame, if the checking reaches it. A frame without a clock costs no call.
+// The clock check of a frame, if the checking reaches it. A frame without a clock is not looked up.
 pub fn sv_clock_check<'a>(
     reached: bool,
     clock_macs: &'a mut [u64; 16],

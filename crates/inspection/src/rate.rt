@@ -28,7 +28,7 @@ pub struct RatePlan {
     pub allowed: bool,
 }
 
-// The buckets after a request, and whether it is within its rate.
+// The buckets after a request, and whether it is within its rate; for the contracts.
 pub struct RateChecked {
     pub table: RateBuckets,
     pub allowed: bool,

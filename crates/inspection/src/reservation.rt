@@ -27,13 +27,13 @@ pub struct CbReservations {
     pub active: [bool; 16],
 }
 
-// The reservations after a SelectControl, and whether there was a place.
+// The reservations after a SelectControl, and whether there was a place; for the contracts.
 pub struct Reserved {
     pub table: CbReservations,
     pub taken: bool,
 }
 
-// The reservations after a frame's use of its control block, and whether this is bound to another address.
+// The reservations after a frame's use of its control block, and whether this is bound to another address; for the contracts.
 pub struct CbChecked {
     pub table: CbReservations,
     pub hijack: bool,

@@ -26,7 +26,7 @@ pub struct TimePlan {
     pub alert: bool,
 }
 
-// The clocks after a frame, and whether its pair alerts.
+// The clocks after a frame, and whether its pair alerts; for the contracts.
 pub struct TimeChecked {
     pub table: TimeTrackers,
     pub alert: bool,

@@ -1,4 +1,4 @@
-// Verdicts as eight octets, for hosts that inspect many frames in one call: allowed, the number of alerts, and of each of the first
+// Verdicts as eight octets, for hosts, of the frames of a batch and of a frame in place: allowed, the number of alerts, and of each of the first
 // three slots the code's number and the severity's. No inspection has more than three alerts.
 ghost use Prim.Native.Nat.{_+_, _≤_};
 ghost use mathlib.Core.Path.{_≡_};

@@ -1,5 +1,5 @@
-// The calls of a script, each made from its record: the number octet, which the table of `script` gives to the call's name, and the
-// arguments at fixed places, which the same table decides.
+// The calls of a script that are no inspections, each made from its record, and the frames of the inspections: the number octet, which
+// `call_number` of `script` gives to the call's name, and the arguments at fixed places, by `kinds_of` of `script`.
 ghost use Prim.Native.Nat.{_≤_};
 ghost use lib.ListN.{length};
 ghost use Rattle.io.specs.Counts.{Counts};

@@ -144,7 +144,7 @@ fn answer_call(
     make_call(m, front(call, n), output, least(at, 65536))
 }
 
-// The monitor after inspections, and the run with the next call that is none.
+// The monitor after inspections of one kind, and the run with the next call, which is another.
 struct AfterInspections {
     monitor: Iec61850Monitor,
     run: Run,
