@@ -163,13 +163,20 @@ module _ (r : CbReservations) (name : List ℕ) (isGoose : Bool) (address : ℕ)
 
 -- ---- the data set of an SV frame, if the rules permit it
 
+-- without a data set nothing is looked up, passed or not
+pub data-set-empty :
+    (r : CbReservations) (octets : List ℕ) (len address : ℕ) (passed : Bool)
+    → len ≡ 0 → record { table = r; hijack = false } ≡ dataSetUsed passed r (nameOf octets len) address
+data-set-empty r octets len address true z = empty-not-used r (nameOf octets len) false address (ap (λ (n : ℕ). length (nameOf octets n)) z)
+data-set-empty r octets len address false z = refl
+
 module _ (r : CbReservations) (octets : List ℕ) (len address : ℕ) (passed : Bool) where
   pub not-passed : passed ≡ false → record { table = r; hijack = false } ≡ dataSetUsed passed r (nameOf octets len) address
   not-passed e = sym (cond-no _ _ e)
 
   module _ (e : passed ≡ true) where
     pub no-data-set : len ≡ 0 → record { table = r; hijack = false } ≡ dataSetUsed passed r (nameOf octets len) address
-    no-data-set z = empty-not-used r (nameOf octets len) false address (ap (λ (n : ℕ). length (nameOf octets n)) z) ∙ sym (cond-yes _ _ e)
+    no-data-set z = data-set-empty r octets len address passed z
 
     pub data-set-used :
         {c : CbChecked} → c ≡ cbChecked r (nameOf octets len) false address → c ≡ dataSetUsed passed r (nameOf octets len) address

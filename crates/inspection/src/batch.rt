@@ -83,19 +83,22 @@ impl Iec61850Monitor {
                 svid_len,
             );
             let permitted = rule.permits();
-            let dataset_ref = frame.dataset_ref;
-            let hijack = sv_hijack_check(
-                permitted,
-                &self.cb_reservations.cb_ref.octets,
-                &self.cb_reservations.cb_ref.lens,
-                &self.cb_reservations.is_goose,
-                &self.cb_reservations.active,
-                &mut cb_bound,
-                &mut cb_macs,
-                dataset_ref,
-                frame.dataset_ref_len,
-                src_mac,
-            );
+            let mut hijack = false;
+            if frame.dataset_ref_len > 0 {
+                let dataset_ref = frame.dataset_ref;
+                hijack = sv_hijack_check(
+                    permitted,
+                    &self.cb_reservations.cb_ref.octets,
+                    &self.cb_reservations.cb_ref.lens,
+                    &self.cb_reservations.is_goose,
+                    &self.cb_reservations.active,
+                    &mut cb_bound,
+                    &mut cb_macs,
+                    dataset_ref,
+                    frame.dataset_ref_len,
+                    src_mac,
+                );
+            }
             let reached = goes_on(permitted, hijack);
             let clock = sv_clock_check(
                 reached,

@@ -12,18 +12,20 @@ use lib.ListN.{length}
 use Rattle.records.specs.declared.frame.SvFrame.{SvFrame}
 use Rattle.records.specs.declared.result.AlertCounters.{AlertCounters}
 use Rattle.records.specs.Alert.{sourceSv}
+use Rattle.records.specs.Name.{nameOf}
 use Rattle.records.specs.Result.{cleanResult}
 use Rattle.records.proofs.NameLaws.{kept-len, kept-octets}
 use Rattle.inspection.specs.declared.report.CheckAlerts.{CheckAlerts}
 use Rattle.inspection.specs.declared.monitor.Iec61850Monitor.{Iec61850Monitor}
 use Rattle.inspection.specs.Batch.{batchCount, frameAt, svAfter, svVerdicts}
-use Rattle.inspection.specs.InspectSv.{withSvParts}
+use Rattle.inspection.specs.InspectSv.{withSvParts, dataSetUsed}
 use Rattle.inspection.specs.Monitor.{mmsTotalInspected, gooseTotalInspected, withTotals}
 use Rattle.inspection.specs.Report.{reportedNext, alertsOf, notedOf}
 use Rattle.inspection.specs.Reservation.{cbTableOf}
 use Rattle.inspection.specs.SvSeq.{svTableOf}
 use Rattle.inspection.specs.TimeField.{clockTableOf}
 use Rattle.inspection.proofs.BatchLaws.{record-fits, all-passed, cut-frame, none-after, no-verdicts, length-verdicts, after-more, verdicts-more}
+use Rattle.inspection.proofs.ReservationLaws.{data-set-empty}
 use Rattle.inspection.proofs.StageLaws.{nothing-noted, sv-checked}
 use Rattle.inspection.proofs.monitor.Iec61850Monitor.inspect_sv_batch.Statement.{statement}
 use Rattle.inspection.proofs.monitor.Iec61850Monitor.inspect_sv_batch.Tie as tie
@@ -84,7 +86,7 @@ same-room l = ap length (l .loop .inv .2) ∙ length-verdicts (monitor l) (octet
 
 -- the beginning of the loop's body, from its end
 abbrev body : tie.After-saturating-increment Inv-loop μ-loop → tie.In-loop Inv-loop μ-loop
-body c = c .before .before .before .before .before .before .before .before .before .before .before .before .before .before .before .before .before .before .before .before .before .before .before .before .before .before .before .before .before .before .before .before .before .before .before .before .before .before .before .before .before .before .before .before .before .before .before .before .before .before .before .before
+body c = c .before .before .before .before .before .before .before .before .before .before .before .before .before .before .before .before .before .before .before .before .before .before .before .before .before .before .before .before .before .before .before .before .before .before .before .before .before .before .before .before .before .before .before .before .before
 
 batch-count-requires : tie.Need-batch-count-requires Inv-loop μ-loop
 batch-count-requires c κs = search needs
@@ -167,7 +169,7 @@ verdict-on-requires : tie.Need-verdict-on-requires Inv-loop μ-loop
 verdict-on-requires c κs = search needs
 
 mul-put-verdict : tie.Need-mul-put-verdict Inv-loop μ-loop
-mul-put-verdict c = omega (arith, record-ends (c .before .before .before .before .before .before .before .before .before .before .before .before .before .before .before .before .before .before .before .before .before .before .before .before .before .before .before .before .before .before .before .before .before .before .before .before .before .before .before .before .before .before .before .before .before .before .before .before))
+mul-put-verdict c = omega (arith, record-ends (c .before .before .before .before .before .before .before .before .before .before .before .before .before .before .before .before .before .before .before .before .before .before .before .before .before .before .before .before .before .before .before .before .before .before .before .before .before .before .before .before .before))
 
 put-verdict-requires : tie.Need-put-verdict-requires Inv-loop μ-loop
 put-verdict-requires c κs = search needs
@@ -186,10 +188,10 @@ frame-read : (c : tie.After-sv-frame-of Inv-loop μ-loop) → c .sv-frame-of .re
 frame-read c = cut-frame (octets (c .before .before .before)) (c .before .before .before .loop .i) (c .sv-frame-of .ensures)
 
 -- the frame that the body reads, and what its checks found
-abbrev frameOf : tie.Joined1 Inv-loop μ-loop → SvFrame
-frameOf j = j .before .before .before .before .before .before .before .before .before .before .before .before .before .before .before .before .before .before .before .before .before .before .before .before .before .before .before .before .before .before .before .before .before .before .before .before .before .before .before .before .before .before .before .before .before .sv-frame-of .result
+abbrev frameOf : tie.Joined2 Inv-loop μ-loop → SvFrame
+frameOf j = j .before .before .before .before .before .before .before .before .before .before .before .before .before .before .before .before .before .before .before .before .before .before .before .before .before .before .before .before .before .before .before .before .before .before .before .before .before .before .sv-frame-of .result
 
-abbrev alerts : tie.Joined1 Inv-loop μ-loop → CheckAlerts
+abbrev alerts : tie.Joined2 Inv-loop μ-loop → CheckAlerts
 alerts j =
     let z = j .before .before in
     record {
@@ -202,23 +204,56 @@ size : (c : tie.After-sv-frame-of Inv-loop μ-loop) → length (c .sv-frame-of .
 size c = search needs
 
 -- the monitor that the body begins with, its frame counted
-abbrev counted-one : tie.Joined1 Inv-loop μ-loop → ℕ → Iec61850Monitor
+abbrev counted-one : tie.Joined2 Inv-loop μ-loop → ℕ → Iec61850Monitor
 counted-one j total =
-    let a = j .before .before .before .before .before .before .before .before .before .before .before .before .before .before .before .before .before .before .before .before .before .before .before .before .before .before .before .before .before .before .before .before .before .before .before .before .before .before .before .before .before .before .before .before .before .before .before .before in
+    let a = j .before .before .before .before .before .before .before .before .before .before .before .before .before .before .before .before .before .before .before .before .before .before .before .before .before .before .before .before .before .before .before .before .before .before .before .before .before .before .before .before .before in
     let l = a .loop in
     whole (monitor a) (l .cb-bound) (l .cb-macs) (l .clock-macs) (l .clock-seconds) (l .clock-fractions) (l .clock-active) (l .clock-used) (l .clock-tick) (l .svids) (l .svid-lens) (l .counts) (l .active) (l .used) (l .tick) total (l .counters)
 
+-- the use of the data set's reservation, where the frame has one
+hijacked :
+    (j : tie.Joined1 Inv-loop μ-loop)
+    → let a = j .before .before .before .before .before .before .before .before .before .before .before .before .before .before .before .before .before .before in
+    let m = monitor a in
+    let o = m .«cb_reservations» in
+    let f = j .before .before .before .before .before .before .before .before .before .before .before .before .before .before .before .sv-frame-of .result in
+    record {
+      table = cbTableOf (o .«cb_ref» .octets) (o .«cb_ref» .lens) (o .«is_goose») (o .«owner_client_id») (j .if1 .cb-bound) (j .if1 .cb-macs) (o .active);
+      hijack = j .if1 .hijack;
+    }
+    ≡ dataSetUsed (j .before .before .permits .result)
+    (cbTableOf (o .«cb_ref» .octets) (o .«cb_ref» .lens) (o .«is_goose») (o .«owner_client_id») (a .loop .cb-bound) (a .loop .cb-macs) (o .active))
+    (nameOf (f .«dataset_ref») (f .«dataset_ref_len»)) (j .before .before .before .before .before .before .before .before .before .before .before .before .before .address-of .result)
+hijacked j =
+    let a = j .before .before .before .before .before .before .before .before .before .before .before .before .before .before .before .before .before .before in
+    let o = monitor a .«cb_reservations» in
+    let f = j .before .before .before .before .before .before .before .before .before .before .before .before .before .before .before .sv-frame-of .result in
+    ⊎-elim
+    (λ w.
+    (λ i. record {
+      table = cbTableOf (o .«cb_ref» .octets) (o .«cb_ref» .lens) (o .«is_goose») (o .«owner_client_id») (w .10 i) (w .11 i) (o .active);
+      hijack = w .12 i;
+    })
+    ∙ w .9 .ensures (o .«owner_client_id»))
+    (λ w.
+    (λ i. record {
+      table = cbTableOf (o .«cb_ref» .octets) (o .«cb_ref» .lens) (o .«is_goose») (o .«owner_client_id») (w .1 i) (w .2 i) (o .active);
+      hijack = w .3 i;
+    })
+    ∙ data-set-empty _ (f .«dataset_ref») (f .«dataset_ref_len») (j .before .before .before .before .before .before .before .before .before .before .before .before .before .address-of .result) (j .before .before .permits .result) (omega (arith, w .0 .left)))
+    (j .if1 .came)
+
 -- what the checks of the body found: the verdict on it, and the counters after it
 noted :
-    (j : tie.Joined1 Inv-loop μ-loop)
-    → record { verdict = j .if1 .verdict; counters = j .if1 .counters }
+    (j : tie.Joined2 Inv-loop μ-loop)
+    → record { verdict = j .if2 .verdict; counters = j .if2 .counters }
     ≡ notedOf
     (foldl (reportedNext sourceSv (frameOf j .«smp_cnt») (frameOf j .«timestamp_us»))
-    (record { result = cleanResult sourceSv; counters = j .before .before .before .before .before .before .before .before .before .before .before .before .before .before .before .before .before .before .before .before .before .before .before .before .before .before .before .before .before .before .before .before .before .before .before .before .before .before .before .before .before .before .before .before .before .before .before .before .loop .counters }) (alertsOf (alerts j)))
+    (record { result = cleanResult sourceSv; counters = j .before .before .before .before .before .before .before .before .before .before .before .before .before .before .before .before .before .before .before .before .before .before .before .before .before .before .before .before .before .before .before .before .before .before .before .before .before .before .before .before .before .loop .counters }) (alertsOf (alerts j)))
 noted j =
     let n = j .before in
     ⊎-elim (λ w. (λ i. record { verdict = w .6 i; counters = w .5 i }) ∙ w .2 .ensures)
-    (λ w. (λ i. record { verdict = w .2 i; counters = w .1 i }) ∙ nothing-noted _ _ _ _ (alerts j) (sym (n .none-found .ensures) ∙ not-false _ (w .0 .left))) (j .if1 .came)
+    (λ w. (λ i. record { verdict = w .2 i; counters = w .1 i }) ∙ nothing-noted _ _ _ _ (alerts j) (sym (n .none-found .ensures) ∙ not-false _ (w .0 .left))) (j .if2 .came)
 
 loop-again : tie.Need-loop-again Inv-loop μ-loop
 loop-again c =
@@ -232,7 +267,7 @@ loop-again c =
     let t = q .before .before .before .before .before .before .before .before in
     let g = t .before .before .before .before .before .before .before in
     let h = g .before in
-    let n = h .before .before .before .before .before .before .before .before .before in
+    let n = h .before .before in
     let r = n .before in
     let k = r .before .before .before .before .before .before in
     let v = k .before .before .before in
@@ -243,15 +278,15 @@ loop-again c =
     (z .before .before .before .before .first-alert .result) (z .before .before .before .count-alert .result) (z .rate-alert .result)
     (kept-octets (f .svid) (f .«svid_len») (size x) (v .valid-len .ensures) (k .padded .ensures))
     (kept-len (f .svid) (f .«svid_len») (size x) (v .valid-len .ensures) (k .padded .ensures))
-    (v .before .address-of .ensures) (r .sv-rule .ensures) (n .permits .ensures) (h .sv-hijack-check .ensures (m .«cb_reservations» .«owner_client_id»))
+    (v .before .address-of .ensures) (r .sv-rule .ensures) (n .permits .ensures) (hijacked h)
     (g .goes-on .ensures) (t .sv-clock-check .ensures) (q .check-sv-seq-in .ensures)
     (z .before .before .before .before .first-alert .ensures) (z .before .before .before .count-alert .ensures) (z .before .before .is-replay .ensures)
     (z .before .rate-reached .ensures) (z .rate-alert .ensures) in
     let before = whole m (l .cb-bound) (l .cb-macs) (l .clock-macs) (l .clock-seconds) (l .clock-fractions) (l .clock-active) (l .clock-used) (l .clock-tick) (l .svids) (l .svid-lens) (l .counts) (l .active) (l .used) (l .tick) (l .total) (l .counters) in (
       omega (arith, below (body c)),
-      after-more m frames (l .i) {before = before} _ _ (l .inv .1) (frame-read (j .before .before .before .before .before .before .before .before .before .before .before .before .before .before .before .before .before .before .before .before .before .before .before .before .before .before .before .before .before .before .before .before .before .before .before .before .before .before .before .before .before .before .before .before .before)) (total .ensures) e (noted j),
+      after-more m frames (l .i) {before = before} _ _ (l .inv .1) (frame-read (j .before .before .before .before .before .before .before .before .before .before .before .before .before .before .before .before .before .before .before .before .before .before .before .before .before .before .before .before .before .before .before .before .before .before .before .before .before .before)) (total .ensures) e (noted j),
       c .before .before .before .put-verdict .ensures
-          ∙ verdicts-more m frames (l .i) {before = before} _ _ (l .inv .1) (frame-read (j .before .before .before .before .before .before .before .before .before .before .before .before .before .before .before .before .before .before .before .before .before .before .before .before .before .before .before .before .before .before .before .before .before .before .before .before .before .before .before .before .before .before .before .before .before)) (total .ensures) e (noted j) (room (body c .before)) (l .inv .2),
+          ∙ verdicts-more m frames (l .i) {before = before} _ _ (l .inv .1) (frame-read (j .before .before .before .before .before .before .before .before .before .before .before .before .before .before .before .before .before .before .before .before .before .before .before .before .before .before .before .before .before .before .before .before .before .before .before .before .before .before)) (total .ensures) e (noted j) (room (body c .before)) (l .inv .2),
     )
 
 same-length : tie.Need-same-length Inv-loop μ-loop
