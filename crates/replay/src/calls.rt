@@ -3,6 +3,7 @@
 ghost use Prim.Native.Nat.{_≤_};
 ghost use lib.ListN.{length};
 ghost use Rattle.io.specs.Counts.{Counts};
+use crate::answers::MonitorReadings;
 use crate::answers::put_added;
 use crate::answers::put_bucket;
 use crate::answers::put_parsed;
@@ -151,12 +152,11 @@ fn make_addition(m: Iec61850Monitor, number: u8, call: &[u8], line: &mut [u8], a
 }
 
 // Call 17: a raw number.
-fn make_service(m: Iec61850Monitor, call: &[u8], line: &mut [u8], at: usize) -> Step
+fn put_service_call(call: &[u8], line: &mut [u8], at: usize) -> usize
     requires { ⌜ at ≤ length (now line) ⌝ }
-    ensures { λ r. ⌜ Counts (r .end) (now (line .exit)) ⌝ }
+    ensures { λ r. ⌜ Counts r (now (line .exit)) ⌝ }
 {
-    let end = put_service(line, at, MmsServiceType::from_u8(octet_at(call, 1)));
-    with_totals(m, line, end)
+    put_service(line, at, MmsServiceType::from_u8(octet_at(call, 1)))
 }
 
 // Puts a word and what a schedule answers to call 18: the interval of the sqNum, and whether the observed one is within tolerance.
@@ -177,33 +177,31 @@ fn put_interval(
 }
 
 // Call 18: a schedule, a sqNum, and an observed and an expected interval. The schedule answers, and then that of a new monitor.
-fn make_interval(m: Iec61850Monitor, call: &[u8], line: &mut [u8], at: usize) -> Step
+fn put_intervals(call: &[u8], line: &mut [u8], at: usize) -> usize
     requires { ⌜ at ≤ length (now line) ⌝ }
-    ensures { λ r. ⌜ Counts (r .end) (now (line .exit)) ⌝ }
+    ensures { λ r. ⌜ Counts r (now (line .exit)) ⌝ }
 {
     let given = schedule(call);
     let usual = RetxSchedule::default_8_1();
     let middle = put_interval(line, at, b"interval ", given, call);
-    let end = put_interval(line, middle, b" default ", usual, call);
-    with_totals(m, line, end)
+    put_interval(line, middle, b" default ", usual, call)
 }
 
 // Call 19: time, and the octets of the frame.
-fn make_parsing(m: Iec61850Monitor, call: &[u8], line: &mut [u8], at: usize) -> Step
+fn put_parsing(call: &[u8], line: &mut [u8], at: usize) -> usize
     requires { ⌜ at ≤ length (now line) ⌝ }
-    ensures { λ r. ⌜ Counts (r .end) (now (line .exit)) ⌝ }
+    ensures { λ r. ⌜ Counts r (now (line .exit)) ⌝ }
 {
     let parsed = parse_sv(rest_at(call, 9), u64_at(call, 1));
     let answer = parsed.answer;
     let frame = parsed.frame;
-    let end = put_parsed(line, at, answer, frame);
-    with_totals(m, line, end)
+    put_parsed(line, at, answer, frame)
 }
 
 // Call 20: a bucket's tokens, capacity and last refill, and a time.
-fn make_bucket_call(m: Iec61850Monitor, call: &[u8], line: &mut [u8], at: usize) -> Step
+fn put_bucket_call(call: &[u8], line: &mut [u8], at: usize) -> usize
     requires { ⌜ at ≤ length (now line) ⌝ }
-    ensures { λ r. ⌜ Counts (r .end) (now (line .exit)) ⌝ }
+    ensures { λ r. ⌜ Counts r (now (line .exit)) ⌝ }
 {
     let bucket = RateBucket {
         tokens: u16_at(call, 1),
@@ -211,11 +209,33 @@ fn make_bucket_call(m: Iec61850Monitor, call: &[u8], line: &mut [u8], at: usize)
         last_refill_us: u64_at(call, 5),
     };
     let called = bucket.next_call(u64_at(call, 13));
-    let end = put_bucket(line, at, called);
-    with_totals(m, line, end)
+    put_bucket(line, at, called)
 }
 
-// Makes a call that is no inspection, and puts its line.
+// Puts what one of the calls 3 and 17 to 20 answers. They leave the monitor.
+fn put_answer(call: &[u8], line: &mut [u8], at: usize) -> usize
+    requires { ⌜ at ≤ length (now line) ⌝ }
+    ensures { λ r. ⌜ Counts r (now (line .exit)) ⌝ }
+{
+    match octet_at(call, 0) {
+        17 => put_service_call(call, line, at),
+        18 => put_intervals(call, line, at),
+        19 => put_parsing(call, line, at),
+        20 => put_bucket_call(call, line, at),
+        _ => put_octets(line, at, b"done"),
+    }
+}
+
+// Puts the line of a call that leaves the monitor.
+pub fn put_query(read: MonitorReadings, call: &[u8], line: &mut [u8], at: usize) -> usize
+    requires { ⌜ at ≤ length (now line) ⌝ }
+    ensures { λ r. ⌜ Counts r (now (line .exit)) ⌝ }
+{
+    let end = put_answer(call, line, at);
+    put_readings(line, end, read)
+}
+
+// Makes one of the calls that may change the monitor and are no inspections, and puts its line.
 pub fn make_call(m: Iec61850Monitor, call: &[u8], line: &mut [u8], at: usize) -> Step
     requires { ⌜ at ≤ length (now line) ⌝ }
     ensures { λ r. ⌜ Counts (r .end) (now (line .exit)) ⌝ }
@@ -223,10 +243,6 @@ pub fn make_call(m: Iec61850Monitor, call: &[u8], line: &mut [u8], at: usize) ->
     let number = octet_at(call, 0);
     match number {
         10 | 11 | 12 => make_addition(m, number, call, line, at),
-        17 => make_service(m, call, line, at),
-        18 => make_interval(m, call, line, at),
-        19 => make_parsing(m, call, line, at),
-        20 => make_bucket_call(m, call, line, at),
         _ => make_setting(m, number, call, line, at),
     }
 }

@@ -12,10 +12,14 @@ mod text;
 mod values;
 mod words;
 
+use answers::MonitorReadings;
 use answers::put_malformed;
+use answers::readings;
+use answers::totals_read;
 use arguments::front;
 use calls::Step;
 use calls::make_call;
+use calls::put_query;
 use input::Input;
 use input::behind_line;
 use input::find_line;
@@ -23,14 +27,22 @@ use input::last_line;
 use input::read_found;
 use input::refilled;
 use inspection::goose_seq::GooseSeqTable;
+use inspection::inspect_goose::inspect_goose_in;
+use inspection::inspect_mms::inspect_mms_in;
+use inspection::inspect_sv::inspect_sv_in;
 use inspection::monitor::Iec61850Monitor;
+use inspection::monitor::Totals;
 use inspection::rate::RateBuckets;
 use inspection::reservation::CbReservations;
 use inspection::sv_seq::SvSeqTable;
 use inspection::time_field::TimeTrackers;
-use inspections::any_sv_line;
-use inspections::goose_line;
-use inspections::mms_line;
+use inspections::SvCall;
+use inspections::goose_call;
+use inspections::mms_call;
+use inspections::put_inspected;
+use inspections::put_sv_inspected;
+use inspections::put_unread;
+use inspections::sv_call;
 use libc::STDOUT_FILENO;
 use records::ageing::Ageing;
 use records::counter::saturating_increment;
@@ -144,30 +156,44 @@ fn answer_call(
     make_call(m, front(call, n), output, least(at, 65536))
 }
 
-// The monitor after inspections of one kind, and the run with the next call, which is another.
-struct AfterInspections {
-    monitor: Iec61850Monitor,
-    run: Run,
+// What the next call is: there is none, an inspection, another call that may change the monitor, or one that leaves it.
+enum CallKind {
+    Nothing,
+    Mms,
+    Goose,
+    Sv,
+    Change,
+    Query,
 }
 
-// Whether the call that is to be made has a number from `first` to `last`.
-fn is_call(call: &[u8; 262144], call_end: usize, first: u8, last: u8) -> bool {
-    call_end > 0 && call[0] >= first && call[0] <= last
-}
-
-// Makes the inspection that is to be made, and those of its kind that follow it.
-fn make_inspections(
-    m: Iec61850Monitor,
-    run: Run,
-    buffer: &mut [u8; 262144],
-    call: &mut [u8; 262144],
-    output: &mut [u8; 65536],
-) -> AfterInspections {
-    match call[0] {
-        13 => make_mms_inspections(m, run, buffer, call, output),
-        14 => make_goose_inspections(m, run, buffer, call, output),
-        _ => make_sv_inspections(m, run, buffer, call, output),
+// The kind of the call whose record ends at n, by its number; 0 if there is none.
+fn call_kind(call: &[u8; 262144], n: usize) -> CallKind {
+    if n == 0 {
+        return CallKind::Nothing;
     }
+    match call[0] {
+        13 => CallKind::Mms,
+        14 => CallKind::Goose,
+        15 | 16 => CallKind::Sv,
+        3 | 17 | 18 | 19 | 20 => CallKind::Query,
+        _ => CallKind::Change,
+    }
+}
+
+// Answers a call that leaves the monitor.
+fn answer_query(
+    read: MonitorReadings,
+    call: &[u8; 262144],
+    n: usize,
+    output: &mut [u8; 65536],
+    at: usize,
+) -> usize {
+    put_query(read, front(call, n), output, least(at, 65536))
+}
+
+// Whether the call that is to be made has this number.
+fn is_call(call: &[u8; 262144], call_end: usize, number: u8) -> bool {
+    call_end > 0 && call[0] == number
 }
 
 // The run after a call was answered, with the next one.
@@ -187,14 +213,22 @@ fn after_answer(
     next_call(out, buffer, call, output)
 }
 
-// Makes MMS inspections until another call comes, in columns of one copy of the monitor.
+// What MMS inspections change in a monitor, and the run with the next call, which is another.
+struct AfterMms {
+    rate_buckets: RateBuckets,
+    cb_reservations: CbReservations,
+    totals: Totals,
+    run: Run,
+}
+
+// Makes MMS inspections until another call comes, in columns of the monitor's tables.
 fn make_mms_inspections(
     m: Iec61850Monitor,
     start: Run,
     buffer: &mut [u8; 262144],
     call: &mut [u8; 262144],
     output: &mut [u8; 65536],
-) -> AfterInspections {
+) -> AfterMms {
     let settings = m.settings;
     let rules = m.rules.mms;
     let mut keys = m.rate_buckets.key;
@@ -211,20 +245,16 @@ fn make_mms_inspections(
     let mut cb_bound = m.cb_reservations.bound;
     let mut cb_macs = m.cb_reservations.bound_src_mac;
     let mut cb_active = m.cb_reservations.active;
+    let mut totals = m.totals;
     let mut total = m.totals.mms_total_inspected;
     let mut next_alert_id = m.totals.alerts.next_alert_id;
     let mut total_alerts = m.totals.alerts.total_alerts;
     let mut run = start;
-    let mut going = is_call(call, run.call_end, 13, 13);
     let mut turns = u64::MAX;
-    while turns > 0 && going {
-        let n = run.call_end;
-        let at = run.end;
-        let end = mms_line(
-            call,
-            n,
-            output,
-            at,
+    while turns > 0 && is_call(call, run.call_end, 13) {
+        let frame = mms_call(call, run.call_end);
+        let result = inspect_mms_in(
+            frame,
             settings,
             rules,
             &mut keys,
@@ -244,60 +274,69 @@ fn make_mms_inspections(
             &mut total,
             &mut next_alert_id,
             &mut total_alerts,
+        );
+        let read = totals_read(
+            total,
             m.totals.goose_total_inspected,
             m.totals.sv_total_inspected,
+            total_alerts,
+            settings.strict_mode,
         );
+        let end = put_inspected(output, run.end, result, read);
         run = after_answer(run, end, buffer, call, output);
-        going = is_call(call, run.call_end, 13, 13);
         turns -= 1;
     }
     let counters = AlertCounters {
         next_alert_id: next_alert_id,
         total_alerts: total_alerts,
     };
-    let mut totals = m.totals;
     totals.mms_total_inspected = total;
     totals.alerts = counters;
-    let buckets = RateBuckets {
-        key: keys,
-        tokens: tokens,
-        capacity: capacity,
-        last_refill_us: last_refill_us,
-        ageing: Ageing {
-            active: active,
-            last_used: used,
-            tick: tick,
+    AfterMms {
+        rate_buckets: RateBuckets {
+            key: keys,
+            tokens: tokens,
+            capacity: capacity,
+            last_refill_us: last_refill_us,
+            ageing: Ageing {
+                active: active,
+                last_used: used,
+                tick: tick,
+            },
         },
-    };
-    let reservations = CbReservations {
-        cb_ref: Names {
-            octets: cb_refs,
-            lens: cb_lens,
+        cb_reservations: CbReservations {
+            cb_ref: Names {
+                octets: cb_refs,
+                lens: cb_lens,
+            },
+            is_goose: cb_kinds,
+            owner_client_id: cb_owners,
+            bound: cb_bound,
+            bound_src_mac: cb_macs,
+            active: cb_active,
         },
-        is_goose: cb_kinds,
-        owner_client_id: cb_owners,
-        bound: cb_bound,
-        bound_src_mac: cb_macs,
-        active: cb_active,
-    };
-    let mut out = m;
-    out.rate_buckets = buckets;
-    out.cb_reservations = reservations;
-    out.totals = totals;
-    AfterInspections {
-        monitor: out,
+        totals: totals,
         run: run,
     }
 }
 
-// Makes GOOSE inspections until another call comes, in columns of one copy of the monitor.
+// What GOOSE inspections change in a monitor, and the run with the next call, which is another.
+struct AfterGoose {
+    goose_seq: GooseSeqTable,
+    time_trackers: TimeTrackers,
+    cb_reservations: CbReservations,
+    totals: Totals,
+    run: Run,
+}
+
+// Makes GOOSE inspections until another call comes, in columns of the monitor's tables.
 fn make_goose_inspections(
     m: Iec61850Monitor,
     start: Run,
     buffer: &mut [u8; 262144],
     call: &mut [u8; 262144],
     output: &mut [u8; 65536],
-) -> AfterInspections {
+) -> AfterGoose {
     let settings = m.settings;
     let mut cb_bound = m.cb_reservations.bound;
     let mut cb_macs = m.cb_reservations.bound_src_mac;
@@ -315,20 +354,16 @@ fn make_goose_inspections(
     let mut active = m.goose_seq.ageing.active;
     let mut used = m.goose_seq.ageing.last_used;
     let mut tick = m.goose_seq.ageing.tick;
+    let mut totals = m.totals;
     let mut total = m.totals.goose_total_inspected;
     let mut next_alert_id = m.totals.alerts.next_alert_id;
     let mut total_alerts = m.totals.alerts.total_alerts;
     let mut run = start;
-    let mut going = is_call(call, run.call_end, 14, 14);
     let mut turns = u64::MAX;
-    while turns > 0 && going {
-        let n = run.call_end;
-        let at = run.end;
-        let end = goose_line(
-            call,
-            n,
-            output,
-            at,
+    while turns > 0 && is_call(call, run.call_end, 14) {
+        let frame = goose_call(call, run.call_end);
+        let result = inspect_goose_in(
+            frame,
             settings,
             &m.rules.goose.src_mac,
             &m.rules.goose.go_cb_ref.octets,
@@ -357,64 +392,89 @@ fn make_goose_inspections(
             &mut total,
             &mut next_alert_id,
             &mut total_alerts,
-            m.totals.mms_total_inspected,
-            m.totals.sv_total_inspected,
         );
+        let read = totals_read(
+            m.totals.mms_total_inspected,
+            total,
+            m.totals.sv_total_inspected,
+            total_alerts,
+            settings.strict_mode,
+        );
+        let end = put_inspected(output, run.end, result, read);
         run = after_answer(run, end, buffer, call, output);
-        going = is_call(call, run.call_end, 14, 14);
         turns -= 1;
     }
     let counters = AlertCounters {
         next_alert_id: next_alert_id,
         total_alerts: total_alerts,
     };
-    let mut totals = m.totals;
     totals.goose_total_inspected = total;
     totals.alerts = counters;
     let mut reservations = m.cb_reservations;
     reservations.bound = cb_bound;
     reservations.bound_src_mac = cb_macs;
-    let clocks = TimeTrackers {
-        src_mac: clock_macs,
-        last_t_seconds: clock_seconds,
-        last_t_fraction: clock_fractions,
-        ageing: Ageing {
-            active: clock_active,
-            last_used: clock_used,
-            tick: clock_tick,
+    AfterGoose {
+        goose_seq: GooseSeqTable {
+            src_mac: src_macs,
+            go_cb_ref_hash: hashes,
+            last_st_num: last_st_num,
+            last_sq_num: last_sq_num,
+            last_seen_us: last_seen_us,
+            ageing: Ageing {
+                active: active,
+                last_used: used,
+                tick: tick,
+            },
         },
-    };
-    let streams = GooseSeqTable {
-        src_mac: src_macs,
-        go_cb_ref_hash: hashes,
-        last_st_num: last_st_num,
-        last_sq_num: last_sq_num,
-        last_seen_us: last_seen_us,
-        ageing: Ageing {
-            active: active,
-            last_used: used,
-            tick: tick,
+        time_trackers: TimeTrackers {
+            src_mac: clock_macs,
+            last_t_seconds: clock_seconds,
+            last_t_fraction: clock_fractions,
+            ageing: Ageing {
+                active: clock_active,
+                last_used: clock_used,
+                tick: clock_tick,
+            },
         },
-    };
-    let mut out = m;
-    out.cb_reservations = reservations;
-    out.time_trackers = clocks;
-    out.goose_seq = streams;
-    out.totals = totals;
-    AfterInspections {
-        monitor: out,
+        cb_reservations: reservations,
+        totals: totals,
         run: run,
     }
 }
 
-// Makes SV inspections until another call comes, in columns of one copy of the monitor.
+// What SV inspections change in a monitor, and the run with the next call, which is another.
+struct AfterSv {
+    sv_seq: SvSeqTable,
+    time_trackers: TimeTrackers,
+    cb_reservations: CbReservations,
+    totals: Totals,
+    run: Run,
+}
+
+// The run after a raw frame that cannot be read, which is no inspection; the same run if that is not the next call.
+fn after_unread(
+    run: Run,
+    sv: SvCall,
+    read: MonitorReadings,
+    buffer: &mut [u8; 262144],
+    call: &mut [u8; 262144],
+    output: &mut [u8; 65536],
+) -> Run {
+    if !sv.raw {
+        return run;
+    }
+    let end = put_unread(output, run.end, sv, read);
+    after_answer(run, end, buffer, call, output)
+}
+
+// Makes SV inspections until another call or a raw frame comes that cannot be read, in columns of the monitor's tables.
 fn make_sv_inspections(
     m: Iec61850Monitor,
     start: Run,
     buffer: &mut [u8; 262144],
     call: &mut [u8; 262144],
     output: &mut [u8; 65536],
-) -> AfterInspections {
+) -> AfterSv {
     let settings = m.settings;
     let rule_rates = m.rules.sv.expected_smp_rate;
     let mut cb_bound = m.cb_reservations.bound;
@@ -431,20 +491,17 @@ fn make_sv_inspections(
     let mut active = m.sv_seq.ageing.active;
     let mut used = m.sv_seq.ageing.last_used;
     let mut tick = m.sv_seq.ageing.tick;
+    let mut totals = m.totals;
     let mut total = m.totals.sv_total_inspected;
     let mut next_alert_id = m.totals.alerts.next_alert_id;
     let mut total_alerts = m.totals.alerts.total_alerts;
     let mut run = start;
-    let mut going = is_call(call, run.call_end, 15, 16);
+    let mut sv = sv_call(call, run.call_end);
     let mut turns = u64::MAX;
-    while turns > 0 && going {
-        let n = run.call_end;
-        let at = run.end;
-        let end = any_sv_line(
-            call,
-            n,
-            output,
-            at,
+    while turns > 0 && sv.is_read {
+        let frame = sv.frame;
+        let result = inspect_sv_in(
+            frame,
             settings,
             &m.rules.sv.src_mac,
             &m.rules.sv.svid.octets,
@@ -472,53 +529,62 @@ fn make_sv_inspections(
             &mut total,
             &mut next_alert_id,
             &mut total_alerts,
+        );
+        let read = totals_read(
             m.totals.mms_total_inspected,
             m.totals.goose_total_inspected,
+            total,
+            total_alerts,
+            settings.strict_mode,
         );
+        let end = put_sv_inspected(output, run.end, sv, result, read);
         run = after_answer(run, end, buffer, call, output);
-        going = is_call(call, run.call_end, 15, 16);
+        sv = sv_call(call, run.call_end);
         turns -= 1;
     }
+    let read = totals_read(
+        m.totals.mms_total_inspected,
+        m.totals.goose_total_inspected,
+        total,
+        total_alerts,
+        settings.strict_mode,
+    );
+    let last = after_unread(run, sv, read, buffer, call, output);
     let counters = AlertCounters {
         next_alert_id: next_alert_id,
         total_alerts: total_alerts,
     };
-    let mut totals = m.totals;
     totals.sv_total_inspected = total;
     totals.alerts = counters;
     let mut reservations = m.cb_reservations;
     reservations.bound = cb_bound;
     reservations.bound_src_mac = cb_macs;
-    let clocks = TimeTrackers {
-        src_mac: clock_macs,
-        last_t_seconds: clock_seconds,
-        last_t_fraction: clock_fractions,
-        ageing: Ageing {
-            active: clock_active,
-            last_used: clock_used,
-            tick: clock_tick,
+    AfterSv {
+        sv_seq: SvSeqTable {
+            svid: Names {
+                octets: svids,
+                lens: svid_lens,
+            },
+            last_smp_cnt: counts,
+            ageing: Ageing {
+                active: active,
+                last_used: used,
+                tick: tick,
+            },
         },
-    };
-    let streams = SvSeqTable {
-        svid: Names {
-            octets: svids,
-            lens: svid_lens,
+        time_trackers: TimeTrackers {
+            src_mac: clock_macs,
+            last_t_seconds: clock_seconds,
+            last_t_fraction: clock_fractions,
+            ageing: Ageing {
+                active: clock_active,
+                last_used: clock_used,
+                tick: clock_tick,
+            },
         },
-        last_smp_cnt: counts,
-        ageing: Ageing {
-            active: active,
-            last_used: used,
-            tick: tick,
-        },
-    };
-    let mut out = m;
-    out.cb_reservations = reservations;
-    out.time_trackers = clocks;
-    out.sv_seq = streams;
-    out.totals = totals;
-    AfterInspections {
-        monitor: out,
-        run: run,
+        cb_reservations: reservations,
+        totals: totals,
+        run: last,
     }
 }
 
@@ -551,17 +617,61 @@ fn main() {
     let mut run = new_run();
     let mut turns = u64::MAX;
     while turns > 0 && (run.more || run.call_end > 0) {
-        if is_call(&call, run.call_end, 13, 16) {
-            let made = make_inspections(monitor, run, &mut buffer, &mut call, &mut output);
-            monitor = made.monitor;
-            run = made.run;
-        } else if run.call_end > 0 {
-            let step = answer_call(monitor, &call, run.call_end, &mut output, run.end);
-            monitor = step.monitor;
-            run.end = step.end;
-            run.call_end = 0;
-        } else {
-            run = next_call(run, &mut buffer, &mut call, &mut output);
+        match call_kind(&call, run.call_end) {
+            CallKind::Nothing => {
+                run = next_call(run, &mut buffer, &mut call, &mut output);
+            }
+            CallKind::Mms => {
+                let made = make_mms_inspections(monitor, run, &mut buffer, &mut call, &mut output);
+                let buckets = made.rate_buckets;
+                let reservations = made.cb_reservations;
+                let totals = made.totals;
+                monitor.rate_buckets = buckets;
+                monitor.cb_reservations = reservations;
+                monitor.totals = totals;
+                run = made.run;
+            }
+            CallKind::Goose => {
+                let made = make_goose_inspections(
+                    monitor,
+                    run,
+                    &mut buffer,
+                    &mut call,
+                    &mut output,
+                );
+                let streams = made.goose_seq;
+                let clocks = made.time_trackers;
+                let reservations = made.cb_reservations;
+                let totals = made.totals;
+                monitor.goose_seq = streams;
+                monitor.time_trackers = clocks;
+                monitor.cb_reservations = reservations;
+                monitor.totals = totals;
+                run = made.run;
+            }
+            CallKind::Sv => {
+                let made = make_sv_inspections(monitor, run, &mut buffer, &mut call, &mut output);
+                let streams = made.sv_seq;
+                let clocks = made.time_trackers;
+                let reservations = made.cb_reservations;
+                let totals = made.totals;
+                monitor.sv_seq = streams;
+                monitor.time_trackers = clocks;
+                monitor.cb_reservations = reservations;
+                monitor.totals = totals;
+                run = made.run;
+            }
+            CallKind::Change => {
+                let step = answer_call(monitor, &call, run.call_end, &mut output, run.end);
+                monitor = step.monitor;
+                run.end = step.end;
+                run.call_end = 0;
+            }
+            CallKind::Query => {
+                let read = readings(monitor);
+                run.end = answer_query(read, &call, run.call_end, &mut output, run.end);
+                run.call_end = 0;
+            }
         }
         turns -= 1;
     }

@@ -5,31 +5,37 @@ use Rattle.replay.proofs.make_goose_inspections.Statement.{statement}
 use Rattle.replay.proofs.make_goose_inspections.Tie as tie
 
 abbrev Inv-loop : tie.InvT-loop
-Inv-loop buffer₀ call₀ output₀ m settings cb-bound₀ cb-macs₀ clock-macs₀ clock-seconds₀ clock-fractions₀ clock-active₀ clock-used₀ clock-tick₀ src-macs₀ hashes₀ last-st-num₀ last-sq-num₀ last-seen-us₀ active₀ used₀ tick₀ total₀ next-alert-id₀ total-alerts₀ run₀ going₀ turns₀ buffer call output cb-bound cb-macs clock-macs clock-seconds clock-fractions clock-active clock-used clock-tick src-macs hashes last-st-num last-sq-num last-seen-us active used tick total next-alert-id total-alerts run going turns =
+Inv-loop buffer₀ call₀ output₀ m settings cb-bound₀ cb-macs₀ clock-macs₀ clock-seconds₀ clock-fractions₀ clock-active₀ clock-used₀ clock-tick₀ src-macs₀ hashes₀ last-st-num₀ last-sq-num₀ last-seen-us₀ active₀ used₀ tick₀ totals total₀ next-alert-id₀ total-alerts₀ run₀ turns₀ buffer call output cb-bound cb-macs clock-macs clock-seconds clock-fractions clock-active clock-used clock-tick src-macs hashes last-st-num last-sq-num last-seen-us active used tick total next-alert-id total-alerts run turns =
     Unit {0}
 
 abbrev μ-loop : tie.MeasureT-loop
-μ-loop buffer₀ call₀ output₀ m settings cb-bound₀ cb-macs₀ clock-macs₀ clock-seconds₀ clock-fractions₀ clock-active₀ clock-used₀ clock-tick₀ src-macs₀ hashes₀ last-st-num₀ last-sq-num₀ last-seen-us₀ active₀ used₀ tick₀ total₀ next-alert-id₀ total-alerts₀ run₀ going₀ turns₀ buffer call output cb-bound cb-macs clock-macs clock-seconds clock-fractions clock-active clock-used clock-tick src-macs hashes last-st-num last-sq-num last-seen-us active used tick total next-alert-id total-alerts run going turns =
+μ-loop buffer₀ call₀ output₀ m settings cb-bound₀ cb-macs₀ clock-macs₀ clock-seconds₀ clock-fractions₀ clock-active₀ clock-used₀ clock-tick₀ src-macs₀ hashes₀ last-st-num₀ last-sq-num₀ last-seen-us₀ active₀ used₀ tick₀ totals total₀ next-alert-id₀ total-alerts₀ run₀ turns₀ buffer call output cb-bound cb-macs clock-macs clock-seconds clock-fractions clock-active clock-used clock-tick src-macs hashes last-st-num last-sq-num last-seen-us active used tick total next-alert-id total-alerts run turns =
     turns
-
-is-call-requires : tie.Need-is-call-requires Inv-loop μ-loop
-is-call-requires c κs = search needs
-
--- the beginning of the loop's body, from its end
-abbrev body : tie.After-is-call2 Inv-loop μ-loop → tie.In-loop Inv-loop μ-loop
-body c = c .before .before .before .before .before .before .before .before .before .before .before .before .before .before .before .before .before .before .before .before .before .before .before .before .before .before .before .before .before .before .before .before .before .before .before .before .before
 
 loop-holds : tie.Need-loop-holds Inv-loop μ-loop
 loop-holds c = search needs
 
-goose-line-requires : tie.Need-goose-line-requires Inv-loop μ-loop
-goose-line-requires c κs = search needs
+is-call-requires : tie.Need-is-call-requires Inv-loop μ-loop
+is-call-requires c κs = search needs
+
+goose-call-requires : tie.Need-goose-call-requires Inv-loop μ-loop
+goose-call-requires c κs = search needs
+
+inspect-goose-in-requires : tie.Need-inspect-goose-in-requires Inv-loop μ-loop
+inspect-goose-in-requires c κs = search needs
+
+totals-read-requires : tie.Need-totals-read-requires Inv-loop μ-loop
+totals-read-requires c κs = search needs
+
+put-inspected-requires : tie.Need-put-inspected-requires Inv-loop μ-loop
+put-inspected-requires c κs = search needs
 
 after-answer-requires : tie.Need-after-answer-requires Inv-loop μ-loop
 after-answer-requires c κs = search needs
 
-is-call-requires-2 : tie.Need-is-call-requires-2 Inv-loop μ-loop
-is-call-requires-2 c κs = search needs
+-- the beginning of the loop's body, from its end
+abbrev body : tie.After-after-answer Inv-loop μ-loop → tie.In-loop Inv-loop μ-loop
+body c = c .before .before .before .before .before .before .before .before .before .before .before .before .before .before .before .before .before .before .before .before .before .before .before .before .before .before .before .before .before .before .before .before .before .before .before .before .before .before .before .before
 
 sub-turns : tie.Need-sub-turns Inv-loop μ-loop
 sub-turns c = omega (arith, body c .loop-test .taken)
@@ -49,11 +55,13 @@ make-goose-inspections-spec =
     (tie.spec
     Inv-loop
     μ-loop
-    is-call-requires
     loop-holds
-    goose-line-requires
+    is-call-requires
+    goose-call-requires
+    inspect-goose-in-requires
+    totals-read-requires
+    put-inspected-requires
     after-answer-requires
-    is-call-requires-2
     sub-turns
     loop-less
     loop-again

@@ -5,31 +5,37 @@ use Rattle.replay.proofs.make_mms_inspections.Statement.{statement}
 use Rattle.replay.proofs.make_mms_inspections.Tie as tie
 
 abbrev Inv-loop : tie.InvT-loop
-Inv-loop m buffer₀ call₀ output₀ settings rules keys₀ tokens₀ capacity₀ last-refill-us₀ active₀ used₀ tick₀ cb-refs₀ cb-lens₀ cb-kinds₀ cb-owners₀ cb-bound₀ cb-macs₀ cb-active₀ total₀ next-alert-id₀ total-alerts₀ run₀ going₀ turns₀ buffer call output keys tokens capacity last-refill-us active used tick cb-refs cb-lens cb-kinds cb-owners cb-bound cb-macs cb-active total next-alert-id total-alerts run going turns =
+Inv-loop m buffer₀ call₀ output₀ settings rules keys₀ tokens₀ capacity₀ last-refill-us₀ active₀ used₀ tick₀ cb-refs₀ cb-lens₀ cb-kinds₀ cb-owners₀ cb-bound₀ cb-macs₀ cb-active₀ totals total₀ next-alert-id₀ total-alerts₀ run₀ turns₀ buffer call output keys tokens capacity last-refill-us active used tick cb-refs cb-lens cb-kinds cb-owners cb-bound cb-macs cb-active total next-alert-id total-alerts run turns =
     Unit {0}
 
 abbrev μ-loop : tie.MeasureT-loop
-μ-loop m buffer₀ call₀ output₀ settings rules keys₀ tokens₀ capacity₀ last-refill-us₀ active₀ used₀ tick₀ cb-refs₀ cb-lens₀ cb-kinds₀ cb-owners₀ cb-bound₀ cb-macs₀ cb-active₀ total₀ next-alert-id₀ total-alerts₀ run₀ going₀ turns₀ buffer call output keys tokens capacity last-refill-us active used tick cb-refs cb-lens cb-kinds cb-owners cb-bound cb-macs cb-active total next-alert-id total-alerts run going turns =
+μ-loop m buffer₀ call₀ output₀ settings rules keys₀ tokens₀ capacity₀ last-refill-us₀ active₀ used₀ tick₀ cb-refs₀ cb-lens₀ cb-kinds₀ cb-owners₀ cb-bound₀ cb-macs₀ cb-active₀ totals total₀ next-alert-id₀ total-alerts₀ run₀ turns₀ buffer call output keys tokens capacity last-refill-us active used tick cb-refs cb-lens cb-kinds cb-owners cb-bound cb-macs cb-active total next-alert-id total-alerts run turns =
     turns
-
-is-call-requires : tie.Need-is-call-requires Inv-loop μ-loop
-is-call-requires c κs = search needs
-
--- the beginning of the loop's body, from its end
-abbrev body : tie.After-is-call2 Inv-loop μ-loop → tie.In-loop Inv-loop μ-loop
-body c = c .before .before .before .before .before .before .before .before .before .before .before .before .before .before .before .before .before .before .before .before .before .before .before .before .before .before .before
 
 loop-holds : tie.Need-loop-holds Inv-loop μ-loop
 loop-holds c = search needs
 
-mms-line-requires : tie.Need-mms-line-requires Inv-loop μ-loop
-mms-line-requires c κs = search needs
+is-call-requires : tie.Need-is-call-requires Inv-loop μ-loop
+is-call-requires c κs = search needs
+
+mms-call-requires : tie.Need-mms-call-requires Inv-loop μ-loop
+mms-call-requires c κs = search needs
+
+inspect-mms-in-requires : tie.Need-inspect-mms-in-requires Inv-loop μ-loop
+inspect-mms-in-requires c κs = search needs
+
+totals-read-requires : tie.Need-totals-read-requires Inv-loop μ-loop
+totals-read-requires c κs = search needs
+
+put-inspected-requires : tie.Need-put-inspected-requires Inv-loop μ-loop
+put-inspected-requires c κs = search needs
 
 after-answer-requires : tie.Need-after-answer-requires Inv-loop μ-loop
 after-answer-requires c κs = search needs
 
-is-call-requires-2 : tie.Need-is-call-requires-2 Inv-loop μ-loop
-is-call-requires-2 c κs = search needs
+-- the beginning of the loop's body, from its end
+abbrev body : tie.After-after-answer Inv-loop μ-loop → tie.In-loop Inv-loop μ-loop
+body c = c .before .before .before .before .before .before .before .before .before .before .before .before .before .before .before .before .before .before .before .before .before .before .before .before .before .before .before .before .before .before
 
 sub-turns : tie.Need-sub-turns Inv-loop μ-loop
 sub-turns c = omega (arith, body c .loop-test .taken)
@@ -49,11 +55,13 @@ make-mms-inspections-spec =
     (tie.spec
     Inv-loop
     μ-loop
-    is-call-requires
     loop-holds
-    mms-line-requires
+    is-call-requires
+    mms-call-requires
+    inspect-mms-in-requires
+    totals-read-requires
+    put-inspected-requires
     after-answer-requires
-    is-call-requires-2
     sub-turns
     loop-less
     loop-again

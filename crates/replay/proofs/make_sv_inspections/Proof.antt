@@ -5,31 +5,37 @@ use Rattle.replay.proofs.make_sv_inspections.Statement.{statement}
 use Rattle.replay.proofs.make_sv_inspections.Tie as tie
 
 abbrev Inv-loop : tie.InvT-loop
-Inv-loop buffer₀ call₀ output₀ m settings rule-rates cb-bound₀ cb-macs₀ clock-macs₀ clock-seconds₀ clock-fractions₀ clock-active₀ clock-used₀ clock-tick₀ svids₀ svid-lens₀ counts₀ active₀ used₀ tick₀ total₀ next-alert-id₀ total-alerts₀ run₀ going₀ turns₀ buffer call output cb-bound cb-macs clock-macs clock-seconds clock-fractions clock-active clock-used clock-tick svids svid-lens counts active used tick total next-alert-id total-alerts run going turns =
+Inv-loop buffer₀ call₀ output₀ m settings rule-rates cb-bound₀ cb-macs₀ clock-macs₀ clock-seconds₀ clock-fractions₀ clock-active₀ clock-used₀ clock-tick₀ svids₀ svid-lens₀ counts₀ active₀ used₀ tick₀ totals total₀ next-alert-id₀ total-alerts₀ run₀ sv₀ turns₀ buffer call output cb-bound cb-macs clock-macs clock-seconds clock-fractions clock-active clock-used clock-tick svids svid-lens counts active used tick total next-alert-id total-alerts run sv turns =
     Unit {0}
 
 abbrev μ-loop : tie.MeasureT-loop
-μ-loop buffer₀ call₀ output₀ m settings rule-rates cb-bound₀ cb-macs₀ clock-macs₀ clock-seconds₀ clock-fractions₀ clock-active₀ clock-used₀ clock-tick₀ svids₀ svid-lens₀ counts₀ active₀ used₀ tick₀ total₀ next-alert-id₀ total-alerts₀ run₀ going₀ turns₀ buffer call output cb-bound cb-macs clock-macs clock-seconds clock-fractions clock-active clock-used clock-tick svids svid-lens counts active used tick total next-alert-id total-alerts run going turns =
+μ-loop buffer₀ call₀ output₀ m settings rule-rates cb-bound₀ cb-macs₀ clock-macs₀ clock-seconds₀ clock-fractions₀ clock-active₀ clock-used₀ clock-tick₀ svids₀ svid-lens₀ counts₀ active₀ used₀ tick₀ totals total₀ next-alert-id₀ total-alerts₀ run₀ sv₀ turns₀ buffer call output cb-bound cb-macs clock-macs clock-seconds clock-fractions clock-active clock-used clock-tick svids svid-lens counts active used tick total next-alert-id total-alerts run sv turns =
     turns
 
-is-call-requires : tie.Need-is-call-requires Inv-loop μ-loop
-is-call-requires c κs = search needs
-
--- the beginning of the loop's body, from its end
-abbrev body : tie.After-is-call2 Inv-loop μ-loop → tie.In-loop Inv-loop μ-loop
-body c = c .before .before .before .before .before .before .before .before .before .before .before .before .before .before .before .before .before .before .before .before .before .before .before .before .before .before .before .before .before .before .before .before .before .before .before
+sv-call-requires : tie.Need-sv-call-requires Inv-loop μ-loop
+sv-call-requires c κs = search needs
 
 loop-holds : tie.Need-loop-holds Inv-loop μ-loop
 loop-holds c = search needs
 
-any-sv-line-requires : tie.Need-any-sv-line-requires Inv-loop μ-loop
-any-sv-line-requires c κs = search needs
+inspect-sv-in-requires : tie.Need-inspect-sv-in-requires Inv-loop μ-loop
+inspect-sv-in-requires c κs = search needs
+
+totals-read-requires : tie.Need-totals-read-requires Inv-loop μ-loop
+totals-read-requires c κs = search needs
+
+put-sv-inspected-requires : tie.Need-put-sv-inspected-requires Inv-loop μ-loop
+put-sv-inspected-requires c κs = search needs
 
 after-answer-requires : tie.Need-after-answer-requires Inv-loop μ-loop
 after-answer-requires c κs = search needs
 
-is-call-requires-2 : tie.Need-is-call-requires-2 Inv-loop μ-loop
-is-call-requires-2 c κs = search needs
+sv-call-requires-2 : tie.Need-sv-call-requires-2 Inv-loop μ-loop
+sv-call-requires-2 c κs = search needs
+
+-- the beginning of the loop's body, from its end
+abbrev body : tie.After-sv-call2 Inv-loop μ-loop → tie.In-loop Inv-loop μ-loop
+body c = c .before .before .before .before .before .before .before .before .before .before .before .before .before .before .before .before .before .before .before .before .before .before .before .before .before .before .before .before .before .before .before .before .before .before .before .before .before
 
 sub-turns : tie.Need-sub-turns Inv-loop μ-loop
 sub-turns c = omega (arith, body c .loop-test .taken)
@@ -40,6 +46,12 @@ loop-less c = omega (arith, body c .loop-test .taken)
 loop-again : tie.Need-loop-again Inv-loop μ-loop
 loop-again c = search needs
 
+totals-read-requires-2 : tie.Need-totals-read-requires-2 Inv-loop μ-loop
+totals-read-requires-2 c κs = search needs
+
+after-unread-requires : tie.Need-after-unread-requires Inv-loop μ-loop
+after-unread-requires c κs = search needs
+
 returns : tie.Need-returns Inv-loop μ-loop
 returns c = search needs
 
@@ -49,12 +61,16 @@ make-sv-inspections-spec =
     (tie.spec
     Inv-loop
     μ-loop
-    is-call-requires
+    sv-call-requires
     loop-holds
-    any-sv-line-requires
+    inspect-sv-in-requires
+    totals-read-requires
+    put-sv-inspected-requires
     after-answer-requires
-    is-call-requires-2
+    sv-call-requires-2
     sub-turns
     loop-less
     loop-again
+    totals-read-requires-2
+    after-unread-requires
     returns)
