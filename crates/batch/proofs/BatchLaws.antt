@@ -13,13 +13,13 @@ use Rattle.records.specs.Name.{octetAt, overwritten}
 use Rattle.records.specs.Result.{cleanResult}
 use Rattle.wire.specs.SvRecord.{svFrameOf}
 use Rattle.records.proofs.NameLaws.{length-overwritten}
 use Rattle.inspection.specs.declared.report.Noted.{Noted}
 use Rattle.inspection.specs.declared.monitor.Iec61850Monitor.{Iec61850Monitor}
-use Rattle.inspection.specs.Batch.{batchCount, frameAt, svAfter, svVerdicts}
+use Rattle.batch.specs.Batch.{batchCount, frameAt, svAfter, svVerdicts}
 use Rattle.inspection.specs.InspectSv.{inspectSv, svBinding}
 use Rattle.inspection.specs.Monitor.{mmsTotalInspected, gooseTotalInspected, withTotals, withAlerts}
 use Rattle.inspection.specs.Report.{Finding, ended, reportedNext, notedOf}
 use Rattle.inspection.proofs.StageLaws.{sv-inspected, noted-after, noted-verdict}
 
 -- the record of a frame that is inspected and its verdict lie within their octets
 module _ (frames verdicts : ℕ) {i n : ℕ} (e : n ≡ batchCount frames verdicts) (h : i < n) where

@@ -1,7 +1,7 @@
 // The inspections as C exports: a frame of numbers, or the octets of an SV frame, and a verdict in numbers.
 ghost use mathlib.Core.Path.{_≡_};
 ghost use lib.ListN.{length};
-ghost use Rattle.inspection.specs.Batch.{batchCount, svAfter, svVerdicts};
+ghost use Rattle.batch.specs.Batch.{batchCount, svAfter, svVerdicts};
 ghost use Rattle.inspection.specs.InspectMms.{inspectMms};
 ghost use Rattle.inspection.specs.InspectGoose.{inspectGoose};
 ghost use Rattle.inspection.specs.InspectSv.{inspectSv, inspectRawSv};
@@ -15,6 +15,7 @@ use crate::result::HostInspected;
 use crate::result::HostRawInspected;
 use crate::result::host_inspected;
 use crate::result::host_raw_inspected;
+use batch::inspect_sv_batch;
 use inspection::monitor::Iec61850Monitor;
 use records::frame::SvFrame;
 
@@ -77,5 +78,5 @@ pub extern "C" fn mokyndu_inspect_sv_batch(
     ensures { λ r. ⌜ r ≡ svAfter monitor (now (frames .entry)) (batchCount (length (now (frames .entry))) (length (now (verdicts .entry)))) ⌝ }
     ensures { λ _. ⌜ now (verdicts .exit) ≡ svVerdicts monitor (now (frames .entry)) (now (verdicts .entry)) (batchCount (length (now (frames .entry))) (length (now (verdicts .entry)))) ⌝ }
 {
-    monitor.inspect_sv_batch(frames, verdicts)
+    inspect_sv_batch(monitor, frames, verdicts)
 }

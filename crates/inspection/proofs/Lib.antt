@@ -8,7 +8,6 @@ pub mod SvSeqLaws
 pub mod TimeFieldLaws
 pub mod ReservationLaws
 pub mod StageLaws
-pub mod BatchLaws
 pub mod CheckLaws
 pub mod ReportLaws
 pub mod SettingLaws

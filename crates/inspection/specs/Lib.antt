@@ -14,7 +14,6 @@ pub mod Report
 pub mod InspectMms
 pub mod InspectGoose
 pub mod InspectSv
-pub mod Batch
 pub mod Calls
 pub mod CallTheorems
 pub mod Points

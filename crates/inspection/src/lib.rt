@@ -1,6 +1,5 @@
 // The IEC 61850 monitor: settings and rules, what it remembers, the checks, and its entries.
 pub mod address;
-pub mod batch;
 pub mod goose_publisher;
 pub mod goose_seq;
 pub mod inspect_goose;

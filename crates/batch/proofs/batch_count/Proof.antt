@@ -1,8 +1,8 @@
 -- `batch_count` meets its contract.
 use borrow.Author.Needs.{needs}
-use Rattle.inspection.specs.Batch.{batchCount}
-use Rattle.inspection.proofs.batch.batch_count.Statement.{statement}
-use Rattle.inspection.proofs.batch.batch_count.Tie as tie
+use Rattle.batch.specs.Batch.{batchCount}
+use Rattle.batch.proofs.batch_count.Statement.{statement}
+use Rattle.batch.proofs.batch_count.Tie as tie
 
 least-requires : tie.Need-least-requires
 least-requires c κs = search needs

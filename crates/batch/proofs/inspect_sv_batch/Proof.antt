@@ -15,20 +15,20 @@ use Rattle.records.specs.Alert.{sourceSv}
 use Rattle.records.specs.Name.{nameOf}
 use Rattle.records.specs.Result.{cleanResult}
 use Rattle.records.proofs.NameLaws.{kept-len, kept-octets}
 use Rattle.inspection.specs.declared.report.CheckAlerts.{CheckAlerts}
 use Rattle.inspection.specs.declared.monitor.Iec61850Monitor.{Iec61850Monitor}
-use Rattle.inspection.specs.Batch.{batchCount, frameAt, svAfter, svVerdicts}
+use Rattle.batch.specs.Batch.{batchCount, frameAt, svAfter, svVerdicts}
 use Rattle.inspection.specs.InspectSv.{withSvParts, dataSetUsed}
 use Rattle.inspection.specs.Monitor.{mmsTotalInspected, gooseTotalInspected, withTotals}
 use Rattle.inspection.specs.Report.{reportedNext, alertsOf, notedOf}
 use Rattle.inspection.specs.Reservation.{cbTableOf}
 use Rattle.inspection.specs.SvSeq.{svTableOf}
 use Rattle.inspection.specs.TimeField.{clockTableOf}
-use Rattle.inspection.proofs.BatchLaws.{record-fits, all-passed, cut-frame, none-after, no-verdicts, length-verdicts, after-more, verdicts-more}
+use Rattle.batch.proofs.BatchLaws.{record-fits, all-passed, cut-frame, none-after, no-verdicts, length-verdicts, after-more, verdicts-more}
 use Rattle.inspection.proofs.ReservationLaws.{data-set-empty}
 use Rattle.inspection.proofs.StageLaws.{nothing-noted, sv-checked}
-use Rattle.inspection.proofs.monitor.Iec61850Monitor.inspect_sv_batch.Statement.{statement}
-use Rattle.inspection.proofs.monitor.Iec61850Monitor.inspect_sv_batch.Tie as tie
+use Rattle.batch.proofs.inspect_sv_batch.Statement.{statement}
+use Rattle.batch.proofs.inspect_sv_batch.Tie as tie
 
 -- the monitor with these columns and counters
 abbrev whole :
@@ -44,11 +44,11 @@ whole m cb-bound cb-macs clock-macs clock-seconds clock-fractions clock-active c
     (mmsTotalInspected m) (gooseTotalInspected m) total counters
 
 abbrev Inv-loop : tie.InvT-loop
-Inv-loop frames verdicts₀ self n settings rule-rates cb-bound₀ cb-macs₀ clock-macs₀ clock-seconds₀ clock-fractions₀ clock-active₀ clock-used₀ clock-tick₀ svids₀ svid-lens₀ counts₀ active₀ used₀ tick₀ total₀ counters₀ i₀ verdicts cb-bound cb-macs clock-macs clock-seconds clock-fractions clock-active clock-used clock-tick svids svid-lens counts active used tick total counters i =
-    (i ≤ n) × (whole self cb-bound cb-macs clock-macs clock-seconds clock-fractions clock-active clock-used clock-tick svids svid-lens counts active used tick total counters ≡ svAfter self frames i) × (verdicts ≡ svVerdicts self frames verdicts₀ i)
+Inv-loop frames verdicts₀ m n settings rule-rates cb-bound₀ cb-macs₀ clock-macs₀ clock-seconds₀ clock-fractions₀ clock-active₀ clock-used₀ clock-tick₀ svids₀ svid-lens₀ counts₀ active₀ used₀ tick₀ total₀ counters₀ i₀ verdicts cb-bound cb-macs clock-macs clock-seconds clock-fractions clock-active clock-used clock-tick svids svid-lens counts active used tick total counters i =
+    (i ≤ n) × (whole m cb-bound cb-macs clock-macs clock-seconds clock-fractions clock-active clock-used clock-tick svids svid-lens counts active used tick total counters ≡ svAfter m frames i) × (verdicts ≡ svVerdicts m frames verdicts₀ i)
 
 abbrev μ-loop : tie.MeasureT-loop
-μ-loop frames verdicts₀ self n settings rule-rates cb-bound₀ cb-macs₀ clock-macs₀ clock-seconds₀ clock-fractions₀ clock-active₀ clock-used₀ clock-tick₀ svids₀ svid-lens₀ counts₀ active₀ used₀ tick₀ total₀ counters₀ i₀ verdicts cb-bound cb-macs clock-macs clock-seconds clock-fractions clock-active clock-used clock-tick svids svid-lens counts active used tick total counters i = n - i
+μ-loop frames verdicts₀ m n settings rule-rates cb-bound₀ cb-macs₀ clock-macs₀ clock-seconds₀ clock-fractions₀ clock-active₀ clock-used₀ clock-tick₀ svids₀ svid-lens₀ counts₀ active₀ used₀ tick₀ total₀ counters₀ i₀ verdicts cb-bound cb-macs clock-macs clock-seconds clock-fractions clock-active clock-used clock-tick svids svid-lens counts active used tick total counters i = n - i
 
 -- where the frames were counted, where the loop began, and what was passed
 abbrev batch : tie.At-loop Inv-loop μ-loop → tie.After-batch-count Inv-loop μ-loop
@@ -58,7 +58,7 @@ abbrev start : tie.At-loop Inv-loop μ-loop → tie.Start Inv-loop μ-loop
 start l = batch l .before .before .before
 
 abbrev monitor : tie.At-loop Inv-loop μ-loop → Iec61850Monitor
-monitor l = start l .args .t1
+monitor l = start l .args .m
 
 abbrev octets : tie.At-loop Inv-loop μ-loop → List ℕ
 octets l = start l .args .frames .now
@@ -94,7 +94,7 @@ batch-count-requires c κs = search needs
 loop-holds : tie.Need-loop-holds Inv-loop μ-loop
 loop-holds c =
     let s = c .before .before .before .before .before .before .before .before .before .before .before .before .before .before .before .before .before .before in
-    (omega arith, none-after (s .args .t1) (s .args .frames .now), no-verdicts (s .args .t1) (s .args .frames .now) (s .args .verdicts .now))
+    (omega arith, none-after (s .args .m) (s .args .frames .now), no-verdicts (s .args .m) (s .args .frames .now) (s .args .verdicts .now))
 
 mul-sv-frame-of : tie.Need-mul-sv-frame-of Inv-loop μ-loop
 mul-sv-frame-of c = omega (arith, record-ends c)
