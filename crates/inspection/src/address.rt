@@ -4,13 +4,15 @@ ghost use mathlib.Core.Path.{_≡_};
 ghost use mathlib.Core.List.{[], _∷_};
 ghost use Rattle.inspection.specs.Address.{addressOf};
 
-// The 48-bit number of six octets, the first most significant.
+// The 48-bit number of six octets, the first most significant. Four and two octets by themselves, since a processor reads either as
+// one number.
 fn octets_number(first: u8, second: u8, third: u8, fourth: u8, fifth: u8, sixth: u8) -> u64
     ensures { λ r. ⌜ r ≡ addressOf (first ∷ second ∷ third ∷ fourth ∷ fifth ∷ sixth ∷ []) ⌝ }
 {
-    let high = (first as u64) * 0x100_0000_0000 + (second as u64) * 0x1_0000_0000;
-    let middle = (third as u64) * 0x100_0000 + (fourth as u64) * 0x1_0000;
-    high + middle + (fifth as u64) * 0x100 + (sixth as u64)
+    let high = (first as u32) * 0x100_0000 + (second as u32) * 0x1_0000;
+    let middle = (third as u32) * 0x100 + (fourth as u32);
+    let low = (fifth as u32) * 0x100 + (sixth as u32);
+    ((high + middle) as u64) * 0x1_0000 + (low as u64)
 }
 
 // The 48-bit number of an Ethernet address.

@@ -24,7 +24,7 @@ use crate::monitor::Inspected;
 use crate::report::CheckAlert;
 use crate::report::CheckAlerts;
 use crate::report::clock_alert;
-use crate::report::push_alerts;
+use crate::report::push_alerts_in;
 use crate::report::refused;
 use crate::reservation::CbReservations;
 use crate::reservation::cb_hijack_check_in;
@@ -355,22 +355,15 @@ pub fn inspect_goose_in<'a>(
         used,
         tick,
     );
-    let counters = AlertCounters {
-        next_alert_id: *next_alert_id,
-        total_alerts: *total_alerts,
-    };
-    let pushed = push_alerts(
-        counters,
+    *total = saturating_increment(*total);
+    push_alerts_in(
         alerts,
         SOURCE_IEC61850_GOOSE,
         frame.st_num,
         frame.timestamp_us,
-    );
-    let counted = pushed.counters;
-    *total = saturating_increment(*total);
-    *next_alert_id = counted.next_alert_id;
-    *total_alerts = counted.total_alerts;
-    pushed.result
+        next_alert_id,
+        total_alerts,
+    )
 }
 
 impl Iec61850Monitor {

@@ -22,7 +22,7 @@ use crate::rate::rate_check_in;
 use crate::report::CheckAlert;
 use crate::report::CheckAlerts;
 use crate::report::no_alerts;
-use crate::report::push_alerts;
+use crate::report::push_alerts_in;
 use crate::report::refused;
 use crate::reservation::CbReservations;
 use crate::reservation::release_cb_in;
@@ -362,22 +362,15 @@ pub fn inspect_mms_in<'a>(
         cb_macs,
         cb_active,
     );
-    let counters = AlertCounters {
-        next_alert_id: *next_alert_id,
-        total_alerts: *total_alerts,
-    };
-    let pushed = push_alerts(
-        counters,
+    *total = saturating_increment(*total);
+    push_alerts_in(
         alerts,
         SOURCE_IEC61850_MMS,
         frame.invoke_id,
         frame.timestamp_us,
-    );
-    let counted = pushed.counters;
-    *total = saturating_increment(*total);
-    *next_alert_id = counted.next_alert_id;
-    *total_alerts = counted.total_alerts;
-    pushed.result
+        next_alert_id,
+        total_alerts,
+    )
 }
 
 impl Iec61850Monitor {

@@ -18,7 +18,7 @@ use crate::monitor::RawInspected;
 use crate::report::CheckAlert;
 use crate::report::CheckAlerts;
 use crate::report::clock_alert;
-use crate::report::push_alerts;
+use crate::report::push_alerts_in;
 use crate::reservation::cb_hijack_check_in;
 use crate::rules::RuleCheck;
 use crate::settings::Settings;
@@ -406,22 +406,15 @@ pub fn inspect_sv_in<'a>(
         used,
         tick,
     );
-    let counters = AlertCounters {
-        next_alert_id: *next_alert_id,
-        total_alerts: *total_alerts,
-    };
-    let pushed = push_alerts(
-        counters,
+    *total = saturating_increment(*total);
+    push_alerts_in(
         alerts,
         SOURCE_IEC61850_SV,
         frame.smp_cnt as u32,
         frame.timestamp_us,
-    );
-    let counted = pushed.counters;
-    *total = saturating_increment(*total);
-    *next_alert_id = counted.next_alert_id;
-    *total_alerts = counted.total_alerts;
-    pushed.result
+        next_alert_id,
+        total_alerts,
+    )
 }
 
 impl Iec61850Monitor {

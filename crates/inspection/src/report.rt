@@ -125,6 +125,34 @@ pub fn push_alerts(
     push_alert(two, third, source_type, source_id, ts_us)
 }
 
+// The same with the counters where they stand. Without an alert they are left, and the clean result is made where it is wanted.
+pub fn push_alerts_in<'a>(
+    alerts: CheckAlerts,
+    source_type: u8,
+    source_id: u32,
+    ts_us: u64,
+    next_alert_id: &'a mut u64,
+    total_alerts: &'a mut u64,
+) -> InspectResult
+    ensures { λ r. ⌜ record { result = r; counters = record { «next_alert_id» = now («next_alert_id» .exit); «total_alerts» = now («total_alerts» .exit) } } ≡ foldl (reportedNext «source_type» «source_id» «ts_us») (record { result = cleanResult «source_type»; counters = record { «next_alert_id» = now («next_alert_id» .entry); «total_alerts» = now («total_alerts» .entry) } }) (alertsOf alerts) ⌝ }
+{
+    let first = alerts.first;
+    let second = alerts.second;
+    let third = alerts.third;
+    if none_found(first, second, third) {
+        return InspectResult::clean(source_type);
+    }
+    let counters = AlertCounters {
+        next_alert_id: *next_alert_id,
+        total_alerts: *total_alerts,
+    };
+    let pushed = push_alerts(counters, alerts, source_type, source_id, ts_us);
+    let counted = pushed.counters;
+    *next_alert_id = counted.next_alert_id;
+    *total_alerts = counted.total_alerts;
+    pushed.result
+}
+
 // The verdict on a frame without alerts.
 pub const CLEAN_VERDICT: [u8; 8] = [1, 0, 0, 0, 0, 0, 0, 0];
 
