@@ -23,13 +23,12 @@ use Rattle.records.specs.declared.search.Found.the-variants.{At}
 use Rattle.records.specs.Alert.{sourceMms, sourceGoose, sourceSv, noAlert, alertOf}
 use Rattle.records.specs.Counter.{saturated}
 use Rattle.records.specs.Hash.{fnv1a}
-use Rattle.records.specs.Name.{validLen, nameOf, padded}
+use Rattle.records.specs.Name.{nameOf, padded}
 use Rattle.records.specs.Result.{cleanResult, pushed}
 use Rattle.records.specs.Search.{isFound}
 use Rattle.records.specs.Verdict.{verdictOf}
 use Rattle.records.specs.Service.{serviceNumber, isWrite}
 use Rattle.records.proofs.Booleans.{and-true, and-false, and-both, answered, cond-yes, cond-no}
-use Rattle.records.proofs.NameLaws.{kept-len, kept-octets}
 use Rattle.wire.specs.declared.sv.Parsed.{Parsed}
 use Rattle.wire.specs.declared.sv.Parsed.the-variants.{Frame, Error}
 use Rattle.wire.specs.declared.sv.ParsedSv.{ParsedSv}
@@ -56,17 +55,17 @@ use Rattle.inspection.specs.declared.sv_seq.SvSeqOutcome.the-variants.{F
 use Rattle.inspection.specs.declared.time_field.TimeChecked.{TimeChecked}
 use Rattle.inspection.specs.Address.{addressOf}
 use Rattle.inspection.specs.GoosePublisher.{firstFitting, goosePublisher}
-use Rattle.inspection.specs.GooseSeq.{controlBlock, gooseTimed, retxChecked, gooseChecked}
-use Rattle.inspection.specs.InspectGoose.{goosePair, streamFindings, gooseStream, gooseClock, gooseTimeField, gooseBound, gooseReservation, gooseAllowed, blocked, gooseTest, inspectGoose}
+use Rattle.inspection.specs.GooseSeq.{controlBlock, gooseTimed, retxCheckedIf, gooseCheckedIf}
+use Rattle.inspection.specs.InspectGoose.{goosePair, streamFindings, gooseTimeField, gooseBound, gooseReservation, gooseAllowed, blocked, gooseTest, inspectGoose, gooseRuleCheck}
 use Rattle.inspection.specs.InspectMms.{domainName, fullFindings, mmsReserved, mmsControl, mmsRated, mmsRate, mmsRule, mmsMask, mmsChecks, inspectMms}
-use Rattle.inspection.specs.InspectSv.{svPair, rateFindings, countFindings, svTimeField, svRuleCheck, inspectSv, rawInspected, inspectRawSv, svBound, svReservation, svBinding, dataSetUsed, clockReached, firstFindings, rateReached}
+use Rattle.inspection.specs.InspectSv.{svPair, rateFindings, countFindings, svTimeField, svRuleCheck, inspectSv, rawInspected, inspectRawSv, svBound, svReservation, svBinding, rateReached}
 use Rattle.inspection.specs.Monitor.{mmsTotalInspected, gooseTotalInspected, svTotalInspected, withTotals, countedMms, countedGoose, countedSv, withAlerts, withReservations, withRates, withClocks, withGooseStreams, withSvStreams}
 use Rattle.inspection.specs.Rate.{rateChecked}
-use Rattle.inspection.specs.Report.{Finding, Checked, refusal, notice, clockFindings, ended, permitted, permits, withAllowed, reportedNext, reported, findingsOf, alertsOf, isNothing, noneFound, notedOf}
-use Rattle.inspection.specs.Reservation.{reserved, released, cbChecked}
+use Rattle.inspection.specs.Report.{Finding, Checked, refusal, notice, clockFindings, firstFindings, ended, permitted, permits, withAllowed, reportedNext, reported, findingsOf, alertsOf, isNothing, noneFound, notedOf}
+use Rattle.inspection.specs.Reservation.{reserved, released, cbCheckedIf}
 use Rattle.inspection.specs.SvPublisher.{lastFitting, svPublisher}
 use Rattle.inspection.specs.SvSeq.{svKey, isReplay, svChecked, svKeptCheckedIf}
-use Rattle.inspection.specs.TimeField.{timeChecked}
+use Rattle.inspection.specs.TimeField.{timeCheckedIf}
 use Rattle.inspection.proofs.GooseSeqLaws.{withoutAges, retx-columns}
 use Rattle.inspection.proofs.SvSeqLaws.{kept-checked}
 
@@ -254,84 +253,136 @@ module _ (m : Iec61850Monitor) (f : MmsFrame) where
       unfolding mmsControl
       no-control h a = ap (ended m) a ∙ sym (cond-no _ _ not-select ∙ cond-no _ _ (answered by-number h))
 
--- ---- GOOSE: the publishers, the reservation, then clock, retransmission and stream
+-- ---- GOOSE: test flag and publishers, the reservation, then clock, retransmission and stream
+
+-- a test frame while blocked, and what the publishers say of any other
+module _ (blockedTest : Bool) (count : ℕ) (place : Found) where
+  pub test-refused : blockedTest ≡ true → Refused Medium PolicyViolation ≡ gooseRuleCheck blockedTest count place
+  unfolding gooseRuleCheck
+  test-refused b = sym (cond-yes _ _ b)
+
+  module _ {found : Found} {missing : Bool} (b : blockedTest ≡ false) (e : found ≡ place) (u : missing ≡ (ltb 0 count && not (isFound found))) where
+    publisher-asked : {x : Bool} → missing ≡ x → (ltb 0 count && not (isFound place)) ≡ x
+    publisher-asked h = answered (u ∙ ap (λ (p : Found). ltb 0 count && not (isFound p)) e) h
+
+    pub unlisted-refused : missing ≡ true → Refused High PolicyViolation ≡ gooseRuleCheck blockedTest count place
+    unfolding gooseRuleCheck
+    unlisted-refused h = sym (cond-no _ _ b ∙ cond-yes _ _ (publisher-asked h))
+
+    pub listed-permitted : missing ≡ false → Rate 0 ≡ gooseRuleCheck blockedTest count place
+    unfolding gooseRuleCheck
+    listed-permitted h = sym (cond-no _ _ b ∙ cond-no _ _ (publisher-asked h))
 
 module _ (m : Iec61850Monitor) (f : GooseFrame) where
-  -- publishers exist, and none fits the frame
-  abbrev gooseNotListed : Bool
-  gooseNotListed = ltb 0 (m .rules .goose .count) && not (isFound (goosePublisher (m .rules .goose) (addressOf (f .«src_mac»)) (controlBlock f)))
+  abbrev gooseSource : ℕ
+  gooseSource = addressOf (f .«src_mac»)
 
-  -- a test frame while blocked
-  pub test-refused : {found : List Finding} → blocked (m .settings) f ≡ true → found ≡ refusal Medium PolicyViolation ∷ [] → ended m found ≡ gooseTest m f
-  unfolding gooseTest
-  test-refused b r = ap (ended m) r ∙ sym (cond-yes _ _ b)
+  -- what test flag and publishers say of the frame
+  abbrev gooseRuled : RuleCheck
+  gooseRuled = gooseRuleCheck (blocked (m .settings) f) (m .rules .goose .count) (goosePublisher (m .rules .goose) gooseSource (controlBlock f))
 
-  -- the publishers, searched by the name as it is kept
-  module _ (size : length (f .«go_cb_ref») ≡ 64) {n address : ℕ} {kept : List ℕ} {place : Found} {missing : Bool}
-      (b : blocked (m .settings) f ≡ false) (l : n ≡ validLen (f .«go_cb_ref_len»)) (k : kept ≡ padded (f .«go_cb_ref») n) (a : address ≡ addressOf (f .«src_mac»))
-      (e : place
-      ≡ firstFitting (m .rules .goose .«src_mac») (m .rules .goose .«go_cb_ref» .octets) (m .rules .goose .«go_cb_ref» .lens)
-      (m .rules .goose .count) address kept n)
-      (u : missing ≡ (ltb 0 (m .rules .goose .count) && not (isFound place))) where
-    not-listed : missing ≡ gooseNotListed
-    unfolding goosePublisher
-    not-listed =
-        let p = m .rules .goose in
-        let octets = kept-octets (f .«go_cb_ref») (f .«go_cb_ref_len») size l k in
-        let len = kept-len (f .«go_cb_ref») (f .«go_cb_ref_len») size l k in
-        let publisher = e ∙ (λ i. firstFitting (p .«src_mac») (p .«go_cb_ref» .octets) (p .«go_cb_ref» .lens) (p .count) (a i) (octets i) (len i)) in
-        u ∙ ap (λ (x : Found). ltb 0 (p .count) && not (isFound x)) publisher
+  -- so says the search by the padded name and its length
+  goose-ruled :
+      {n address : ℕ} {kept : List ℕ} {rule : RuleCheck}
+      → kept ≡ padded (controlBlock f) (length (controlBlock f)) → n ≡ length (controlBlock f) → address ≡ gooseSource
+      → rule
+      ≡ gooseRuleCheck (blocked (m .settings) f) (m .rules .goose .count)
+      (firstFitting (m .rules .goose .«src_mac») (m .rules .goose .«go_cb_ref» .octets) (m .rules .goose .«go_cb_ref» .lens) (m .rules .goose .count) address kept n)
+      → rule ≡ gooseRuled
+  unfolding goosePublisher
+  goose-ruled k l a r =
+      let p = m .rules .goose in
+      r
+      ∙ (λ i. gooseRuleCheck (blocked (m .settings) f) (p .count)
+      (firstFitting (p .«src_mac») (p .«go_cb_ref» .octets) (p .«go_cb_ref» .lens) (p .count) (a i) (k i) (l i)))
 
-    pub unlisted-refused : {found : List Finding} → missing ≡ true → found ≡ refusal High PolicyViolation ∷ [] → ended m found ≡ gooseTest m f
-    unfolding gooseTest gooseAllowed
-    unlisted-refused h r = ap (ended m) r ∙ sym (cond-no _ _ b ∙ cond-yes _ _ (answered not-listed h))
+  -- the chain of the definition, by what they say
+  goose-permitted : permitted m (λ rate. gooseReservation m f) gooseRuled ≡ gooseTest m f
+  unfolding gooseTest gooseAllowed gooseRuleCheck
+  goose-permitted = go (blocked (m .settings) f) (ltb 0 (m .rules .goose .count) && not (isFound (goosePublisher (m .rules .goose) gooseSource (controlBlock f))))
+    where
+      go :
+          (b missing : Bool)
+          → permitted m (λ rate. gooseReservation m f) (cond b (Refused Medium PolicyViolation) (cond missing (Refused High PolicyViolation) (Rate 0)))
+          ≡ cond b (ended m (refusal Medium PolicyViolation ∷ [])) (cond missing (ended m (refusal High PolicyViolation ∷ [])) (gooseReservation m f))
+      go true missing = refl
+      go false true = refl
+      go false false = refl
 
-    pub listed-checked : missing ≡ false → gooseReservation m f ≡ gooseTest m f
-    unfolding gooseTest gooseAllowed
-    listed-checked h = sym (cond-no _ _ b ∙ cond-no _ _ (answered not-listed h))
+  -- the further checks of the frame, each if it is reached
+  abbrev controlBlockAt : Bool → ℕ → CbChecked
+  controlBlockAt permitted address = cbCheckedIf permitted (m .«cb_reservations») (controlBlock f) true address
 
-  -- the reservation of the control block, looked up for the address
-  module _ {address : ℕ} {used : CbChecked}
-      (a : address ≡ addressOf (f .«src_mac»)) (u : used ≡ cbChecked (m .«cb_reservations») (controlBlock f) true address) where
-    goose-used : gooseBound m f used ≡ gooseReservation m f
-    unfolding gooseReservation
-    goose-used = ap (gooseBound m f) (u ∙ ap (cbChecked (m .«cb_reservations») (controlBlock f) true) a)
+  abbrev gooseClockAt : Bool → ℕ → TimeChecked
+  gooseClockAt reached address = timeCheckedIf reached (m .«time_trackers») (m .settings .«time_max_forward_jump_s») address (goosePair f)
 
-    pub goose-hijacked :
-        {found : List Finding} → used .hijack ≡ true → found ≡ refusal High CbHijack ∷ [] → ended (withReservations m (used .table)) found ≡ gooseReservation m f
-    goose-hijacked h r = ap (ended (withReservations m (used .table))) r ∙ sym (cond-yes _ _ h) ∙ goose-used
+  abbrev retxAt : Bool → GooseSeqTable → ℕ → ℕ → Bool
+  retxAt reached t address hash = retxCheckedIf reached (m .settings .«retx_enforce») (m .settings .«retx_schedule») t (address, hash) (gooseTimed f)
 
-    pub goose-not-hijacked : used .hijack ≡ false → gooseTimeField (withReservations m (used .table)) f ≡ gooseReservation m f
-    goose-not-hijacked h = sym (cond-no _ _ h) ∙ goose-used
+  abbrev streamAt : Bool → ℕ → ℕ → GooseChecked
+  streamAt reached address hash = gooseCheckedIf reached (m .«goose_seq») (address, hash) (gooseTimed f)
 
-  -- clock, retransmission and stream of an address and a hash
-  abbrev clockChecked : ℕ → TimeChecked
-  clockChecked address = timeChecked (m .«time_trackers») (m .settings .«time_max_forward_jump_s») address (goosePair f)
+  -- what the checks leave
+  abbrev gooseLeft : CbChecked → TimeChecked → GooseChecked → Iec61850Monitor
+  gooseLeft used clock stream = withGooseStreams (withClocks (withReservations m (used .table)) (clock .table)) (stream .table)
 
-  abbrev scheduleChecked : GooseSeqTable → ℕ → ℕ → Bool
-  scheduleChecked t address hash = retxChecked (m .settings .«retx_enforce») (m .settings .«retx_schedule») t (address, hash) (gooseTimed f)
+  -- and with what they find
+  abbrev gooseFound : RuleCheck → CbChecked → TimeChecked → Bool → GooseChecked → Checked
+  gooseFound rule used clock outside stream =
+      ended (gooseLeft used clock stream) (firstFindings rule (used .hijack) (clock .alert) ++ streamFindings (stream .replay) outside)
 
-  abbrev streamChecked : ℕ → ℕ → GooseChecked
-  streamChecked address hash = gooseChecked (m .«goose_seq») (address, hash) (gooseTimed f)
+  -- the same from whether the checking reaches them
+  abbrev gooseFoundIf : RuleCheck → CbChecked → Bool → Checked
+  gooseFoundIf rule used reached =
+      gooseFound rule used (gooseClockAt reached gooseSource) (retxAt reached (m .«goose_seq») gooseSource (fnv1a (controlBlock f)))
+      (streamAt reached gooseSource (fnv1a (controlBlock f)))
 
-  pub goose-time-field-checked :
-      (first second : CheckAlert) {clock : TimeChecked} {address hash : ℕ} {outside : Bool} {stream : GooseChecked}
-      → address ≡ addressOf (f .«src_mac»)
+  -- a hijack ends the checking, else the frame is checked on
+  after-control-block :
+      (rate : ℕ) (table : CbReservations) (hijack : Bool)
+      → gooseFoundIf (Rate rate) (record { table = table; hijack = hijack }) (not hijack) ≡ gooseBound m f (record { table = table; hijack = hijack })
+  unfolding gooseTimeField retxCheckedIf
+  after-control-block rate table true = refl
+  after-control-block rate table false = refl
+
+  -- a refusal by the rules ends it too
+  after-goose-rules :
+      (rule : RuleCheck)
+      → gooseFoundIf rule (controlBlockAt (permits rule) gooseSource) (permits rule && not (controlBlockAt (permits rule) gooseSource .hijack))
+      ≡ permitted m (λ rate. gooseReservation m f) rule
+  unfolding gooseReservation retxCheckedIf
+  after-goose-rules (Refused severity code) = refl
+  after-goose-rules (Rate rate) = after-control-block rate (controlBlockAt true gooseSource .table) (controlBlockAt true gooseSource .hijack)
+
+  -- the checks one after the other, as the code makes them: each answer from those before it
+  pub goose-checked :
+      {n address hash : ℕ} {kept : List ℕ} {rule : RuleCheck} {passed reached outside : Bool} {used : CbChecked} {clock : TimeChecked} {stream : GooseChecked}
+      (first second : CheckAlert)
+      → kept ≡ padded (controlBlock f) (length (controlBlock f)) → n ≡ length (controlBlock f) → address ≡ gooseSource
+      → rule
+      ≡ gooseRuleCheck (blocked (m .settings) f) (m .rules .goose .count)
+      (firstFitting (m .rules .goose .«src_mac») (m .rules .goose .«go_cb_ref» .octets) (m .rules .goose .«go_cb_ref» .lens) (m .rules .goose .count) address kept n)
+      → passed ≡ permits rule
+      → used ≡ controlBlockAt passed address
+      → reached ≡ (passed && not (used .hijack))
+      → clock ≡ gooseClockAt reached address
       → hash ≡ fnv1a (controlBlock f)
-      → clock ≡ clockChecked address
-      → outside ≡ scheduleChecked (withoutAges (m .«goose_seq»)) address hash
-      → stream ≡ streamChecked address hash
-      → findingsOf first ≡ clockFindings (clock .alert)
+      → outside ≡ retxAt reached (withoutAges (m .«goose_seq»)) address hash
+      → stream ≡ streamAt reached address hash
+      → findingsOf first ≡ firstFindings rule (used .hijack) (clock .alert)
       → findingsOf second ≡ streamFindings (stream .replay) outside
-      → ended (withGooseStreams (withClocks m (clock .table)) (stream .table)) (alertsOf (record { first = first; second = second; third = Nothing }))
-      ≡ gooseTimeField m f
-  unfolding gooseTimeField
-  goose-time-field-checked first second {clock} {address} {hash} {outside} {stream} e h t o s a b =
-      let outside-by-key = o ∙ retx-columns _ _ (m .«goose_seq») _ _ ∙ (λ i. scheduleChecked (m .«goose_seq») (e i) (h i)) in
-      let stream-by-key = s ∙ (λ i. streamChecked (e i) (h i)) in
-      (λ i. ended (withGooseStreams (withClocks m (clock .table)) (stream .table)) (a i ++ (append-nil (findingsOf second) ∙ b) i))
-      ∙ (λ i. gooseStream (withClocks m (clock .table)) (clockFindings (clock .alert)) (outside-by-key i) (stream-by-key i))
-      ∙ ap (gooseClock m f) (t ∙ ap clockChecked e)
+      → ended (gooseLeft used clock stream) (alertsOf (record { first = first; second = second; third = Nothing })) ≡ gooseTest m f
+  unfolding retxCheckedIf
+  goose-checked {rule = rule} {passed = passed} {reached = reached} {used = used} {clock = clock} {stream = stream} first second k l a r p u g t h o s x y =
+      let scheduled = o ∙ ap (λ (b : Bool). reached && b) (retx-columns _ _ (m .«goose_seq») _ _) in
+      (λ i. ended (gooseLeft used clock stream) (x i ++ (append-nil (findingsOf second) ∙ y) i))
+      ∙ (λ i. gooseFound rule used (t i) (scheduled i) (s i))
+      ∙ (λ i. gooseFound rule used (gooseClockAt reached (a i)) (retxAt reached (m .«goose_seq») (a i) (h i)) (streamAt reached (a i) (h i)))
+      ∙ ap (gooseFoundIf rule used) (g ∙ ap (λ (b : Bool). b && not (used .hijack)) p)
+      ∙ ap (λ (c : CbChecked). gooseFoundIf rule c (permits rule && not (c .hijack))) (u ∙ (λ i. controlBlockAt (p i) (a i)))
+      ∙ after-goose-rules rule
+      ∙ ap (permitted m (λ rate. gooseReservation m f)) (goose-ruled k l a r)
+      ∙ goose-permitted
 
 -- ---- SV: the publishers, the reservation, then clock, count and rate
 
@@ -378,10 +429,10 @@ module _ (m : Iec61850Monitor) (f : SvFrame) where
 
   -- the further checks of the frame, each if it is reached
   abbrev dataSetAt : Bool → ℕ → CbChecked
-  dataSetAt permitted address = dataSetUsed permitted (m .«cb_reservations») (nameOf (f .«dataset_ref») (f .«dataset_ref_len»)) address
+  dataSetAt permitted address = cbCheckedIf permitted (m .«cb_reservations») (nameOf (f .«dataset_ref») (f .«dataset_ref_len»)) false address
 
   abbrev clockAt : Bool → ℕ → TimeChecked
-  clockAt reached address = clockReached reached (m .«time_trackers») (m .settings .«time_max_forward_jump_s») address (svPair f)
+  clockAt reached address = timeCheckedIf reached (m .«time_trackers») (m .settings .«time_max_forward_jump_s») address (svPair f)
 
   abbrev countAt : Bool → SvChecked
   countAt reached = cond reached (svChecked (m .«sv_seq») (svKey f) (f .«smp_cnt»)) (record { table = m .«sv_seq»; outcome = FirstSeen })

@@ -5,21 +5,21 @@ ghost use lib.ListN.{length};
 ghost use Rattle.inspection.specs.Batch.{batchCount, svAfter, svVerdicts};
 use crate::address::address_of;
 use crate::inspect_sv::count_alert;
-use crate::inspect_sv::first_alert;
-use crate::inspect_sv::goes_on;
 use crate::inspect_sv::rate_alert;
 use crate::inspect_sv::rate_reached;
-use crate::inspect_sv::sv_clock_check;
-use crate::inspect_sv::sv_hijack_check;
 use crate::inspect_sv::sv_rule;
 use crate::monitor::Iec61850Monitor;
 use crate::report::CLEAN_VERDICT;
 use crate::report::CheckAlerts;
+use crate::report::first_alert;
+use crate::report::goes_on;
 use crate::report::none_found;
 use crate::report::verdict_on;
+use crate::reservation::hijack_check_if;
 use crate::sv_seq::SvSeqTable;
 use crate::sv_seq::check_sv_seq_in;
 use crate::time_field::TimeTrackers;
+use crate::time_field::clock_check_if;
 use records::ageing::Ageing;
 use records::alert::SOURCE_IEC61850_SV;
 use records::counter::saturating_increment;
@@ -86,7 +86,7 @@ impl Iec61850Monitor {
             let mut hijack = false;
             if frame.dataset_ref_len > 0 {
                 let dataset_ref = frame.dataset_ref;
-                hijack = sv_hijack_check(
+                hijack = hijack_check_if(
                     permitted,
                     &self.cb_reservations.cb_ref.octets,
                     &self.cb_reservations.cb_ref.lens,
@@ -96,11 +96,12 @@ impl Iec61850Monitor {
                     &mut cb_macs,
                     dataset_ref,
                     frame.dataset_ref_len,
+                    false,
                     src_mac,
                 );
             }
             let reached = goes_on(permitted, hijack);
-            let clock = sv_clock_check(
+            let clock = clock_check_if(
                 reached,
                 &mut clock_macs,
                 &mut clock_seconds,
