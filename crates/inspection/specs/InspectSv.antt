@@ -32,7 +32,7 @@ use Rattle.inspection.specs.declared.sv_seq.SvSeqOutcome.the-variants.{F
 use Rattle.inspection.specs.declared.time_field.TimeChecked.{TimeChecked}
 use Rattle.inspection.specs.Address.{addressOf}
 use Rattle.inspection.specs.Monitor.{mmsTotalInspected, gooseTotalInspected, withTotals, countedSv, withReservations, withClocks, withSvStreams}
-use Rattle.inspection.specs.Report.{Finding, Checked, refusal, notice, clockFindings, ended, permitted, reported}
+use Rattle.inspection.specs.Report.{Finding, Checked, refusal, notice, clockFindings, ended, permitted, rateGiven, reported}
 use Rattle.inspection.specs.Reservation.{cbChecked}
 use Rattle.inspection.specs.SvPublisher.{svPublisher}
 use Rattle.inspection.specs.SvSeq.{svKey, svChecked}
@@ -133,5 +133,4 @@ svMonitorOf m settings publishers reservations clocks streams total next alerts 
 
 -- the rate that a frame's is compared with, none where the checking ended before
 abbrev pub rateReached : RuleCheck → Bool → ℕ
-rateReached (Refused severity code) hijack = 0
-rateReached (Rate rate) hijack = cond hijack 0 rate
+rateReached rule hijack = cond hijack 0 (rateGiven rule)

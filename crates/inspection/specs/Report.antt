@@ -57,6 +57,11 @@ abbrev pub permits : RuleCheck → Bool
 permits (Refused severity code) = false
 permits (Rate rate) = true
 
+-- the rate that they give it, 0 where they refuse it
+abbrev pub rateGiven : RuleCheck → ℕ
+rateGiven (Refused severity code) = 0
+rateGiven (Rate rate) = rate
+
 -- a result with this allowed flag
 abbrev pub withAllowed : InspectResult → Bool → InspectResult
 withAllowed r allowed =

@@ -137,15 +137,10 @@ pub fn sv_rule<'a>(
 pub fn rate_reached(rule: RuleCheck, hijack: bool) -> u16
     ensures { λ r. ⌜ r ≡ rateReached rule hijack ⌝ }
 {
-    match rule {
-        RuleCheck::Refused(_, _) => 0,
-        RuleCheck::Rate(rate) => {
-            if hijack {
-                return 0;
-            }
-            rate
-        }
+    if hijack {
+        return 0;
     }
+    rule.rate_given()
 }
 
 // The checks of an SV frame in the columns of a monitor. They follow each other without a branch: one that is not reached changes

@@ -2,9 +2,9 @@
 // industrial/iec61850-monitor/src/lib.rs of craton-shield a31d888527 (Apache-2.0) and changed: alerts are added once, at the end.
 ghost use mathlib.Core.Path.{_≡_};
 ghost use mathlib.Core.Bool.{_&&_, not};
-ghost use mathlib.Core.List.{[], _∷_, foldl};
+ghost use mathlib.Core.List.{foldl};
 ghost use Rattle.records.specs.Result.{cleanResult};
-ghost use Rattle.inspection.specs.Report.{refusal, clockFindings, findingsOf, alertsOf, firstFindings, isNothing, noneFound, notedOf, reportedNext};
+ghost use Rattle.inspection.specs.Report.{clockFindings, findingsOf, alertsOf, firstFindings, isNothing, noneFound, notedOf, reportedNext};
 use crate::rules::RuleCheck;
 use records::alert::AlertCode;
 use records::alert::AlertSeverity;
@@ -27,30 +27,8 @@ pub struct CheckAlerts {
     pub third: CheckAlert,
 }
 
-// One alert, which refuses the frame and ends the checking.
-pub fn refused(severity: AlertSeverity, code: AlertCode) -> CheckAlerts
-    ensures { λ r. ⌜ alertsOf r ≡ refusal severity code ∷ [] ⌝ }
-{
-    CheckAlerts {
-        first: CheckAlert::Refusal(severity, code),
-        second: CheckAlert::Nothing,
-        third: CheckAlert::Nothing,
-    }
-}
-
-// No check found anything.
-pub fn no_alerts() -> CheckAlerts
-    ensures { λ r. ⌜ alertsOf r ≡ [] ⌝ }
-{
-    CheckAlerts {
-        first: CheckAlert::Nothing,
-        second: CheckAlert::Nothing,
-        third: CheckAlert::Nothing,
-    }
-}
-
 // A clock alert refuses, and checking goes on.
-pub fn clock_alert(alert: bool) -> CheckAlert
+fn clock_alert(alert: bool) -> CheckAlert
     ensures { λ r. ⌜ findingsOf r ≡ clockFindings alert ⌝ }
 {
     if alert {
