@@ -5,21 +5,21 @@ ghost use lib.ListN.{length};
 ghost use Rattle.batch.specs.Batch.{batchCount, svAfter, svVerdicts};
 use inspection::address::address_of;
 use inspection::inspect_sv::count_alert;
-use inspection::inspect_sv::first_alert;
-use inspection::inspect_sv::goes_on;
 use inspection::inspect_sv::rate_alert;
 use inspection::inspect_sv::rate_reached;
-use inspection::inspect_sv::sv_clock_check;
-use inspection::inspect_sv::sv_hijack_check;
 use inspection::inspect_sv::sv_rule;
 use inspection::monitor::Iec61850Monitor;
 use inspection::report::CLEAN_VERDICT;
 use inspection::report::CheckAlerts;
+use inspection::report::first_alert;
+use inspection::report::goes_on;
 use inspection::report::none_found;
 use inspection::report::verdict_on;
+use inspection::reservation::hijack_check_if;
 use inspection::sv_seq::SvSeqTable;
 use inspection::sv_seq::check_sv_seq_in;
 use inspection::time_field::TimeTrackers;
+use inspection::time_field::clock_check_if;
 use records::ageing::Ageing;
 use records::alert::SOURCE_IEC61850_SV;
 use records::counter::saturating_increment;
@@ -85,7 +85,7 @@ pub fn inspect_sv_batch(m: Iec61850Monitor, frames: &[u8], verdicts: &mut [u8]) 
         let mut hijack = false;
         if frame.dataset_ref_len > 0 {
             let dataset_ref = frame.dataset_ref;
-            hijack = sv_hijack_check(
+            hijack = hijack_check_if(
                 permitted,
                 &m.cb_reservations.cb_ref.octets,
                 &m.cb_reservations.cb_ref.lens,
@@ -95,11 +95,12 @@ pub fn inspect_sv_batch(m: Iec61850Monitor, frames: &[u8], verdicts: &mut [u8]) 
                 &mut cb_macs,
                 dataset_ref,
                 frame.dataset_ref_len,
+                false,
                 src_mac,
             );
         }
         let reached = goes_on(permitted, hijack);
-        let clock = sv_clock_check(
+        let clock = clock_check_if(
             reached,
             &mut clock_macs,
             &mut clock_seconds,

@@ -1,6 +1,6 @@
 -- Laws of GOOSE streams: the ways that a plan and a look-up go, and a plan carried out.
 use mathlib.Core.List.{[]}
-use mathlib.Core.Path.{_≡_, refl, _∙_}
+use mathlib.Core.Path.{_≡_, refl, sym, _∙_}
 use mathlib.Core.Bool.{Bool, true, false}
 use Prim.Native.Nat.{ℕ, _<_}
 use lib.ListN.{set}
@@ -11,11 +11,12 @@ use Rattle.records.specs.declared.search.Found.{Found}
 use Rattle.records.specs.declared.search.Found.the-variants.{At, Nothing}
 use Rattle.records.specs.Ageing.{nextTick, slotFor, usedAt}
 use Rattle.records.specs.Table.{slotOf, valueAt}
-use Rattle.records.proofs.Booleans.{answered}
+use Rattle.records.proofs.Booleans.{and-yes, and-no, answered, cond-yes, cond-no}
 use Rattle.records.proofs.TableLaws.{new-slot-is, target-below}
 use Rattle.inspection.specs.declared.goose_seq.GooseSeqTable.{GooseSeqTable}
+use Rattle.inspection.specs.declared.goose_seq.GooseChecked.{GooseChecked}
 use Rattle.inspection.specs.declared.goose_seq.GoosePlan.{GoosePlan}
-use Rattle.inspection.specs.GooseSeq.{gooseStreams, replays, retransmission, outsideTolerance, retxChecked, gooseChecked, gooseTableOf, goosePlanOf, goosePlan}
+use Rattle.inspection.specs.GooseSeq.{gooseStreams, replays, retransmission, outsideTolerance, retxChecked, retxCheckedIf, gooseChecked, gooseCheckedIf, gooseTableOf, goosePlanOf, goosePlan}
 
 module _ (t : GooseSeqTable) (key : ℕ × ℕ) (new : (ℕ × ℕ) × ℕ) where
   module _ {f : Found} (s : f ≡ slotOf gooseStreams t key) where
@@ -77,6 +78,24 @@ pub plan-carried-out :
     ≡ gooseChecked t key new
 unfolding goosePlan gooseChecked
 plan-carried-out t key new e u = rw (u, e)
+
+-- a stream that the checking does not reach, and one that it reaches
+module _ (t : GooseSeqTable) (key : ℕ × ℕ) (new : (ℕ × ℕ) × ℕ) (reached : Bool) where
+  pub stream-not-reached : reached ≡ false → record { table = t; replay = false } ≡ gooseCheckedIf reached t key new
+  stream-not-reached e = sym (cond-no _ _ e)
+
+  pub stream-reached : {c : GooseChecked} → reached ≡ true → c ≡ gooseChecked t key new → c ≡ gooseCheckedIf reached t key new
+  stream-reached e k = k ∙ sym (cond-yes _ _ e)
+
+-- and so a look-up
+module _ (enforce : Bool) (schedule : RetxSchedule) (t : GooseSeqTable) (key : ℕ × ℕ) (new : (ℕ × ℕ) × ℕ) (reached : Bool) where
+  pub retx-not-reached : reached ≡ false → false ≡ retxCheckedIf reached enforce schedule t key new
+  unfolding retxCheckedIf
+  retx-not-reached e = sym (and-no _ e)
+
+  pub retx-reached : {r : Bool} → reached ≡ true → r ≡ retxChecked enforce schedule t key new → r ≡ retxCheckedIf reached enforce schedule t key new
+  unfolding retxCheckedIf
+  retx-reached e k = sym (and-yes e (sym k))
 
 -- the look-up reads neither ages nor tick
 abbrev pub withoutAges : GooseSeqTable → GooseSeqTable

@@ -1,7 +1,8 @@
 -- Laws of rates: the ways that a plan is made, its slot, and a plan carried out.
 use Prim.Native.Nat.{ℕ, _<_}
 use mathlib.Core.Bool.{true}
-use mathlib.Core.Path.{_≡_, _∙_, ap}
+use mathlib.Core.Path.{_≡_, sym, _∙_, ap}
+use lib.Dec.{ltb}
 use lib.ListN.{set}
 use Rattle.records.specs.declared.ageing.Ageing.{Ageing}
 use Rattle.records.specs.declared.ageing.EqualAges.the-variants.{Last}
@@ -13,10 +14,12 @@ use Rattle.records.specs.Ageing.{nextTick, slotFor, usedAt}
 use Rattle.records.specs.Bucket.{nextCall, firstCall}
 use Rattle.records.specs.Remembered.{after}
 use Rattle.records.specs.Table.{slotOf}
+use Rattle.records.proofs.Booleans.{cond-yes}
 use Rattle.records.proofs.TableLaws.{target-found, value-found, target-new, value-new, target-below}
 use Rattle.inspection.specs.declared.rate.RateBuckets.{RateBuckets}
 use Rattle.inspection.specs.declared.rate.RatePlan.{RatePlan}
-use Rattle.inspection.specs.Rate.{buckets, bucketAt, newBucket, nextBucket, withinRate, ratePlan, rateChecked}
+use Rattle.inspection.specs.declared.rate.RateChecked.{RateChecked}
+use Rattle.inspection.specs.Rate.{buckets, bucketAt, newBucket, nextBucket, withinRate, ratePlan, rateChecked, rateCheckedIf}
 
 module _ (t : RateBuckets) (invokeId rate time : ℕ) where
   module _ {f : Found} (s : f ≡ slotOf buckets t invokeId) where
@@ -64,3 +67,10 @@ module _ (t : RateBuckets) (invokeId rate time : ℕ) where
       ≡ rateChecked t invokeId rate time
   unfolding ratePlan rateChecked
   plan-carried-out p u = rw (u, p)
+
+  -- a rate of 0 is no limit
+  pub not-limited : rate ≡ 0 → record { table = t; allowed = true } ≡ rateCheckedIf t invokeId rate time
+  not-limited z = rw z
+
+  pub limited : {c : RateChecked} → ltb 0 rate ≡ true → c ≡ rateChecked t invokeId rate time → c ≡ rateCheckedIf t invokeId rate time
+  limited h e = e ∙ sym (cond-yes _ _ h)

@@ -17,8 +17,7 @@ use Rattle.records.proofs.Booleans.{and-false, cond-yes, cond-no, answered}
 use Rattle.records.proofs.TableLaws.{found-below}
 use Rattle.inspection.specs.declared.reservation.CbReservations.{CbReservations}
 use Rattle.inspection.specs.declared.reservation.CbChecked.{CbChecked}
-use Rattle.inspection.specs.InspectSv.{dataSetUsed}
-use Rattle.inspection.specs.Reservation.{sameKind, reservesAt, reserves, ownedAt, ownedBy, reservationOf, takenAt, placeOr, reservedAt, reserved, freedBelow, withActive, freedAt, released, boundTo, usedBy, cbChecked, cbKeptReservedAt, cbKeptReserved, cbKeptReleased}
+use Rattle.inspection.specs.Reservation.{sameKind, reservesAt, reserves, ownedAt, ownedBy, reservationOf, takenAt, placeOr, reservedAt, reserved, freedBelow, withActive, freedAt, released, boundTo, usedBy, cbChecked, cbCheckedIf, cbKeptReservedAt, cbKeptReserved, cbKeptReleased}
 
 -- ---- the test of a slot
 
@@ -161,23 +160,19 @@ module _ (r : CbReservations) (name : List ℕ) (isGoose : Bool) (address : ℕ)
       ap (λ (x : Found). usedBy r address x) (e ∙ (λ i. first (reservesAt (r .«cb_ref» .octets) (r .«cb_ref» .lens) (r .«is_goose») (r .active) (k i) (l i) isGoose)))
       ∙ sym (cond-no _ _ (ne-eqb (length name) 0 (λ y. z (l ∙ y))))
 
--- ---- the data set of an SV frame, if the rules permit it
+-- ---- the use by a frame that the rules may refuse
 
--- without a data set nothing is looked up, passed or not
-pub data-set-empty :
-    (r : CbReservations) (octets : List ℕ) (len address : ℕ) (passed : Bool)
-    → len ≡ 0 → record { table = r; hijack = false } ≡ dataSetUsed passed r (nameOf octets len) address
-data-set-empty r octets len address true z = empty-not-used r (nameOf octets len) false address (ap (λ (n : ℕ). length (nameOf octets n)) z)
-data-set-empty r octets len address false z = refl
+-- without a name nothing is looked up, permitted or not
+pub nameless-not-used :
+    (r : CbReservations) (octets : List ℕ) (len : ℕ) (isGoose : Bool) (address : ℕ) (permitted : Bool)
+    → len ≡ 0 → record { table = r; hijack = false } ≡ cbCheckedIf permitted r (nameOf octets len) isGoose address
+nameless-not-used r octets len isGoose address true z =
+    empty-not-used r (nameOf octets len) isGoose address (ap (λ (n : ℕ). length (nameOf octets n)) z)
+nameless-not-used r octets len isGoose address false z = refl
 
-module _ (r : CbReservations) (octets : List ℕ) (len address : ℕ) (passed : Bool) where
-  pub not-passed : passed ≡ false → record { table = r; hijack = false } ≡ dataSetUsed passed r (nameOf octets len) address
-  not-passed e = sym (cond-no _ _ e)
+module _ (r : CbReservations) (name : List ℕ) (isGoose : Bool) (address : ℕ) (permitted : Bool) where
+  pub not-permitted : permitted ≡ false → record { table = r; hijack = false } ≡ cbCheckedIf permitted r name isGoose address
+  not-permitted e = sym (cond-no _ _ e)
 
-  module _ (e : passed ≡ true) where
-    pub no-data-set : len ≡ 0 → record { table = r; hijack = false } ≡ dataSetUsed passed r (nameOf octets len) address
-    no-data-set z = data-set-empty r octets len address passed z
-
-    pub data-set-used :
-        {c : CbChecked} → c ≡ cbChecked r (nameOf octets len) false address → c ≡ dataSetUsed passed r (nameOf octets len) address
-    data-set-used u = u ∙ sym (cond-yes _ _ e)
+  pub permitted-used : {c : CbChecked} → permitted ≡ true → c ≡ cbChecked r name isGoose address → c ≡ cbCheckedIf permitted r name isGoose address
+  permitted-used e u = u ∙ sym (cond-yes _ _ e)

@@ -1,4 +1,4 @@
--- Laws of the stages of an inspection: each way out of a stage, and what the stage then finds.
+-- Laws of an inspection: the alerts of its checks reported, what its rules say, and its checks in a row as the chain of stages of its definition.
 use Prim.Native.Nat.{ℕ, _≤_}
 use mathlib.Core.Bool.{Bool, true, false, _&&_, _||_, cond, not, false≢true}
 use mathlib.Core.List.{List, [], _∷_, _++_, append-nil, foldl, foldl-append}
@@ -8,7 +8,7 @@ use borrow.Author.Tests.{lt-ltb, eq-eqb, ne-eqb}
 use lib.Dec.{eqb, ltb}
 use lib.ListN.{length, List·getD-eq-default}
 use Rattle.records.specs.declared.alert.AlertCode.{AlertCode}
-use Rattle.records.specs.declared.alert.AlertCode.the-variants.{PolicyViolation, RateExceeded, SvRateAnomaly, CbHijack}
+use Rattle.records.specs.declared.alert.AlertCode.the-variants.{PolicyViolation, SvRateAnomaly, CbHijack}
 use Rattle.records.specs.declared.alert.AlertSeverity.{AlertSeverity}
 use Rattle.records.specs.declared.alert.AlertSeverity.the-variants.{Medium, High}
 use Rattle.records.specs.declared.error.VsError.{VsError}
@@ -23,13 +23,12 @@ use Rattle.records.specs.declared.search.Found.the-variants.{At}
 use Rattle.records.specs.Alert.{sourceMms, sourceGoose, sourceSv, noAlert, alertOf}
 use Rattle.records.specs.Counter.{saturated}
 use Rattle.records.specs.Hash.{fnv1a}
-use Rattle.records.specs.Name.{validLen, nameOf, padded}
+use Rattle.records.specs.Name.{nameOf, padded}
 use Rattle.records.specs.Result.{cleanResult, pushed}
 use Rattle.records.specs.Search.{isFound}
 use Rattle.records.specs.Verdict.{verdictOf}
 use Rattle.records.specs.Service.{serviceNumber, isWrite}
 use Rattle.records.proofs.Booleans.{and-true, and-false, and-both, answered, cond-yes, cond-no}
-use Rattle.records.proofs.NameLaws.{kept-len, kept-octets}
 use Rattle.wire.specs.declared.sv.Parsed.{Parsed}
 use Rattle.wire.specs.declared.sv.Parsed.the-variants.{Frame, Error}
 use Rattle.wire.specs.declared.sv.ParsedSv.{ParsedSv}
@@ -39,6 +38,7 @@ use Rattle.inspection.specs.declared.goose_seq.GooseChecked.{GooseChecke
 use Rattle.inspection.specs.declared.mms_rule.MmsRules.{MmsRules}
 use Rattle.inspection.specs.declared.monitor.Iec61850Monitor.{Iec61850Monitor}
 use Rattle.inspection.specs.declared.monitor.Inspected.{Inspected}
+use Rattle.inspection.specs.declared.rate.RateBuckets.{RateBuckets}
 use Rattle.inspection.specs.declared.rate.RateChecked.{RateChecked}
 use Rattle.inspection.specs.declared.report.CheckAlert.{CheckAlert}
 use Rattle.inspection.specs.declared.report.CheckAlerts.{CheckAlerts}
@@ -56,17 +56,17 @@ use Rattle.inspection.specs.declared.sv_seq.SvSeqOutcome.the-variants.{F
 use Rattle.inspection.specs.declared.time_field.TimeChecked.{TimeChecked}
 use Rattle.inspection.specs.Address.{addressOf}
 use Rattle.inspection.specs.GoosePublisher.{firstFitting, goosePublisher}
-use Rattle.inspection.specs.GooseSeq.{controlBlock, gooseTimed, retxChecked, gooseChecked}
-use Rattle.inspection.specs.InspectGoose.{goosePair, streamFindings, gooseStream, gooseClock, gooseTimeField, gooseBound, gooseReservation, gooseAllowed, blocked, gooseTest, inspectGoose}
-use Rattle.inspection.specs.InspectMms.{domainName, fullFindings, mmsReserved, mmsControl, mmsRated, mmsRate, mmsRule, mmsMask, mmsChecks, inspectMms}
-use Rattle.inspection.specs.InspectSv.{svPair, rateFindings, countFindings, svTimeField, svRuleCheck, inspectSv, rawInspected, inspectRawSv, svBound, svReservation, svBinding, dataSetUsed, clockReached, firstFindings, rateReached}
+use Rattle.inspection.specs.GooseSeq.{controlBlock, gooseTimed, retxCheckedIf, gooseCheckedIf}
+use Rattle.inspection.specs.InspectGoose.{goosePair, streamFindings, gooseTimeField, gooseBound, gooseReservation, gooseAllowed, blocked, gooseTest, inspectGoose, gooseRuleCheck}
+use Rattle.inspection.specs.InspectMms.{domainName, fullFindings, mmsReserved, mmsControl, mmsRated, mmsRate, mmsRule, mmsMask, mmsChecks, inspectMms, mmsFindings, cbControlled, cbControlledIf}
+use Rattle.inspection.specs.InspectSv.{svPair, rateFindings, countFindings, svTimeField, svRuleCheck, inspectSv, rawInspected, inspectRawSv, svBound, svReservation, svBinding, rateReached}
 use Rattle.inspection.specs.Monitor.{mmsTotalInspected, gooseTotalInspected, svTotalInspected, withTotals, countedMms, countedGoose, countedSv, withAlerts, withReservations, withRates, withClocks, withGooseStreams, withSvStreams}
-use Rattle.inspection.specs.Rate.{rateChecked}
-use Rattle.inspection.specs.Report.{Finding, Checked, refusal, notice, clockFindings, ended, permitted, permits, withAllowed, reportedNext, reported, findingsOf, alertsOf, isNothing, noneFound, notedOf}
-use Rattle.inspection.specs.Reservation.{reserved, released, cbChecked}
+use Rattle.inspection.specs.Rate.{rateChecked, rateCheckedIf}
+use Rattle.inspection.specs.Report.{Finding, Checked, refusal, notice, clockFindings, firstFindings, ended, permitted, permits, rateGiven, withAllowed, reportedNext, reported, findingsOf, alertsOf, isNothing, noneFound, notedOf}
+use Rattle.inspection.specs.Reservation.{reserved, released, cbCheckedIf}
 use Rattle.inspection.specs.SvPublisher.{lastFitting, svPublisher}
 use Rattle.inspection.specs.SvSeq.{svKey, isReplay, svChecked, svKeptCheckedIf}
-use Rattle.inspection.specs.TimeField.{timeChecked}
+use Rattle.inspection.specs.TimeField.{timeCheckedIf}
 use Rattle.inspection.proofs.GooseSeqLaws.{withoutAges, retx-columns}
 use Rattle.inspection.proofs.SvSeqLaws.{kept-checked}
 
@@ -183,58 +183,13 @@ pub rule-past :
 rule-past rules strict write i l m h =
     rw (List·getD-eq-default (rules .«read_only») false {n = i} (omega arith), List·getD-eq-default (rules .«max_rate_per_sec») 0 {n = i} (omega arith))
 
--- a reservation taken, or Low 23
-pub reserved-checked :
-    (m : Iec61850Monitor) (first : CheckAlert) {c c′ : Reserved}
-    → findingsOf first ≡ fullFindings (c .taken) → c ≡ c′
-    → ended (withReservations m (c .table)) (alertsOf (record { first = first; second = Nothing; third = Nothing })) ≡ mmsReserved m c′
-reserved-checked m first {c} a e = ap (ended (withReservations m (c .table))) (append-nil (findingsOf first) ∙ a) ∙ ap (mmsReserved m) e
-
-module _ (m : Iec61850Monitor) (f : MmsFrame) where
-  -- what the rules say of the frame
-  abbrev mmsRuled : RuleCheck
-  mmsRuled = mmsMask (m .settings) (m .rules .mms) (f .«raw_service_type») (isWrite (f .«service_type»))
-
-  -- and checking ends or goes on
-  module _ {write : Bool} {answer : RuleCheck} (w : write ≡ isWrite (f .«service_type»))
-      (r : answer ≡ mmsMask (m .settings) (m .rules .mms) (f .«raw_service_type») write) where
-    mms-ruled : answer ≡ mmsRuled
-    mms-ruled = r ∙ ap (mmsMask (m .settings) (m .rules .mms) (f .«raw_service_type»)) w
-
-    pub mms-refused :
-        {severity : AlertSeverity} {code : AlertCode} {alerts : List Finding}
-        → answer ≡ Refused severity code → alerts ≡ refusal severity code ∷ [] → ended m alerts ≡ mmsChecks m f
-    unfolding mmsChecks
-    mms-refused g h = ap (ended m) h ∙ ap (permitted m (mmsRate m f)) (answered g mms-ruled)
-
-    pub mms-permitted : {rate : ℕ} → answer ≡ Rate rate → mmsRate m f rate ≡ mmsChecks m f
-    unfolding mmsChecks
-    mms-permitted g = ap (permitted m (mmsRate m f)) (answered g mms-ruled)
-
-  -- a rate of 0 is no limit
-  pub no-rate-limit : {rate : ℕ} → rate ≡ 0 → mmsControl m f ≡ mmsRate m f rate
-  unfolding mmsRate
-  no-rate-limit e = rw e
-
-  module _ (rate : ℕ) (d : ¬ (rate ≡ 0)) {c : RateChecked} (e : c ≡ rateChecked (m .«rate_buckets») (f .«invoke_id») rate (f .«timestamp_us»)) where
-    rated : mmsRated m f c ≡ mmsRate m f rate
-    unfolding mmsRate
-    rated = ap (mmsRated m f) e ∙ sym (cond-yes _ _ (nonzero rate d))
-
-    pub rate-allowed : c .allowed ≡ true → mmsControl (withRates m (c .table)) f ≡ mmsRate m f rate
-    rate-allowed a = sym (cond-yes _ _ a) ∙ rated
-
-    pub rate-exceeded :
-        {alerts : List Finding} → c .allowed ≡ false → alerts ≡ refusal Medium RateExceeded ∷ []
-        → ended (withRates m (c .table)) alerts ≡ mmsRate m f rate
-    rate-exceeded a h = ap (ended (withRates m (c .table))) h ∙ sym (cond-no _ _ a) ∙ rated
-
-  -- the control actions, by the service's number
+-- the control action, by the service's number
+module _ (r : CbReservations) (f : MmsFrame) where
   module _ {n : ℕ} (e : n ≡ serviceNumber (f .«service_type»)) where
     pub select-reserves :
-        n ≡ 11 → mmsReserved m (reserved (m .«cb_reservations») (domainName f) (f .«control_block_is_goose») (f .«client_id»)) ≡ mmsControl m f
-    unfolding mmsControl
-    select-reserves h = sym (cond-yes _ _ (eq-eqb _ _ (sym e ∙ h)))
+        {c : Reserved} → n ≡ 11 → c ≡ reserved r (domainName f) (f .«control_block_is_goose») (f .«client_id») → c ≡ cbControlled r f
+    unfolding cbControlled
+    select-reserves h q = q ∙ sym (cond-yes _ _ (eq-eqb _ _ (sym e ∙ h)))
 
     module _ (d : ¬ (n ≡ 11)) {x : Bool} (q : x ≡ (eqb n 12 || eqb n 10)) where
       not-select : eqb (serviceNumber (f .«service_type»)) 11 ≡ false
@@ -244,94 +199,240 @@ module _ (m : Iec61850Monitor) (f : MmsFrame) where
       by-number = q ∙ ap (λ (k : ℕ). eqb k 12 || eqb k 10) e
 
       pub control-releases :
-          {t : CbReservations} {alerts : List Finding} → x ≡ true
-          → t ≡ released (m .«cb_reservations») (domainName f) (f .«control_block_is_goose») (f .«client_id») → alerts ≡ []
-          → ended (withReservations m t) alerts ≡ mmsControl m f
-      unfolding mmsControl
-      control-releases h r a = (λ i. ended (withReservations m (r i)) (a i)) ∙ sym (cond-no _ _ not-select ∙ cond-yes _ _ (answered by-number h))
+          {t : CbReservations} → x ≡ true → t ≡ released r (domainName f) (f .«control_block_is_goose») (f .«client_id»)
+          → record { table = t; taken = true } ≡ cbControlled r f
+      unfolding cbControlled
+      control-releases h p = (λ i. record { table = p i; taken = true }) ∙ sym (cond-no _ _ not-select ∙ cond-yes _ _ (answered by-number h))
 
-      pub no-control : {alerts : List Finding} → x ≡ false → alerts ≡ [] → ended m alerts ≡ mmsControl m f
-      unfolding mmsControl
-      no-control h a = ap (ended m) a ∙ sym (cond-no _ _ not-select ∙ cond-no _ _ (answered by-number h))
+      pub no-control : x ≡ false → record { table = r; taken = true } ≡ cbControlled r f
+      unfolding cbControlled
+      no-control h = sym (cond-no _ _ not-select ∙ cond-no _ _ (answered by-number h))
 
--- ---- GOOSE: the publishers, the reservation, then clock, retransmission and stream
+  -- one that the checking does not reach, and one that it reaches
+  module _ (reached : Bool) where
+    pub control-not-reached : reached ≡ false → record { table = r; taken = true } ≡ cbControlledIf reached r f
+    control-not-reached e = sym (cond-no _ _ e)
+
+    pub control-reached : {c : Reserved} → reached ≡ true → c ≡ cbControlled r f → c ≡ cbControlledIf reached r f
+    control-reached e k = k ∙ sym (cond-yes _ _ e)
+
+module _ (m : Iec61850Monitor) (f : MmsFrame) where
+  abbrev selected : Reserved
+  selected = reserved (m .«cb_reservations») (domainName f) (f .«control_block_is_goose») (f .«client_id»)
+
+  abbrev freed : CbReservations
+  freed = released (m .«cb_reservations») (domainName f) (f .«control_block_is_goose») (f .«client_id»)
+
+  -- where nothing is reserved, nothing is found
+  control-found : mmsReserved m (cbControlled (m .«cb_reservations») f) ≡ mmsControl m f
+  unfolding cbControlled mmsControl
+  control-found = go (eqb (serviceNumber (f .«service_type»)) 11) (eqb (serviceNumber (f .«service_type»)) 12 || eqb (serviceNumber (f .«service_type»)) 10)
+    where
+      go :
+          (selects releases : Bool)
+          → mmsReserved m (cond selects selected (cond releases (record { table = freed; taken = true }) (record { table = m .«cb_reservations»; taken = true })))
+          ≡ cond selects (mmsReserved m selected) (cond releases (ended (withReservations m freed) []) (ended m []))
+      go true releases = refl
+      go false true = refl
+      go false false = refl
+
+module _ (m : Iec61850Monitor) (f : MmsFrame) where
+  -- the bucket by the rate that the rules give, and the control action if it is reached
+  abbrev bucketFor : ℕ → RateChecked
+  bucketFor rate = rateCheckedIf (m .«rate_buckets») (f .«invoke_id») rate (f .«timestamp_us»)
+
+  abbrev controlAt : Bool → Reserved
+  controlAt reached = cbControlledIf reached (m .«cb_reservations») f
+
+  -- what the checks leave
+  abbrev mmsLeft : RateChecked → Reserved → Iec61850Monitor
+  mmsLeft bucket control = withReservations (withRates m (bucket .table)) (control .table)
+
+  -- and with what they find
+  abbrev mmsFound : RuleCheck → RateChecked → Reserved → Checked
+  mmsFound rule bucket control = ended (mmsLeft bucket control) (mmsFindings rule (bucket .allowed) ++ fullFindings (control .taken))
+
+  -- an empty bucket ends the checking, else the control action follows
+  after-bucket :
+      (rate : ℕ) (table : RateBuckets) (allowed : Bool)
+      → mmsFound (Rate rate) (record { table = table; allowed = allowed }) (controlAt (not (not allowed)))
+      ≡ mmsRated m f (record { table = table; allowed = allowed })
+  after-bucket rate table true = control-found (withRates m table) f
+  after-bucket rate table false = refl
+
+  -- a rate of 0 is no limit
+  rate-limited : (rate : ℕ) → mmsRated m f (bucketFor rate) ≡ mmsRate m f rate
+  unfolding mmsRate
+  rate-limited rate = go (ltb 0 rate) (rateChecked (m .«rate_buckets») (f .«invoke_id») rate (f .«timestamp_us»))
+    where
+      go :
+          (b : Bool) (c : RateChecked)
+          → mmsRated m f (cond b c (record { table = m .«rate_buckets»; allowed = true })) ≡ cond b (mmsRated m f c) (mmsControl m f)
+      go true c = refl
+      go false c = refl
+
+  -- a refusal by the rules ends the checking too
+  after-mms-rules :
+      (rule : RuleCheck)
+      → mmsFound rule (bucketFor (rateGiven rule)) (controlAt (permits rule && not (not (bucketFor (rateGiven rule) .allowed))))
+      ≡ permitted m (mmsRate m f) rule
+  after-mms-rules (Refused severity code) = refl
+  after-mms-rules (Rate rate) = after-bucket rate (bucketFor rate .table) (bucketFor rate .allowed) ∙ rate-limited rate
+
+  -- the checks one after the other, as the code makes them: each answer from those before it
+  pub mms-checked :
+      {write : Bool} {rule : RuleCheck} {rate : ℕ} {passed reached : Bool} {bucket : RateChecked} {control : Reserved}
+      (first second : CheckAlert)
+      → write ≡ isWrite (f .«service_type»)
+      → rule ≡ mmsMask (m .settings) (m .rules .mms) (f .«raw_service_type») write
+      → rate ≡ rateGiven rule
+      → bucket ≡ bucketFor rate
+      → passed ≡ permits rule
+      → reached ≡ (passed && not (not (bucket .allowed)))
+      → control ≡ controlAt reached
+      → findingsOf first ≡ mmsFindings rule (bucket .allowed)
+      → findingsOf second ≡ fullFindings (control .taken)
+      → ended (mmsLeft bucket control) (alertsOf (record { first = first; second = second; third = Nothing })) ≡ mmsChecks m f
+  unfolding mmsChecks
+  mms-checked {rule = rule} {bucket = bucket} {control = control} first second w r g b p q k x y =
+      (λ i. ended (mmsLeft bucket control) (x i ++ (append-nil (findingsOf second) ∙ y) i))
+      ∙ ap (mmsFound rule bucket) (k ∙ ap controlAt (q ∙ ap (λ (z : Bool). z && not (not (bucket .allowed))) p))
+      ∙ ap (λ (c : RateChecked). mmsFound rule c (controlAt (permits rule && not (not (c .allowed))))) (b ∙ ap bucketFor g)
+      ∙ after-mms-rules rule
+      ∙ ap (permitted m (mmsRate m f)) (r ∙ ap (mmsMask (m .settings) (m .rules .mms) (f .«raw_service_type»)) w)
+
+-- ---- GOOSE and SV: the clock of an address, if the checking reaches it
+
+abbrev clockAt : Iec61850Monitor → ℕ × ℕ → Bool → ℕ → TimeChecked
+clockAt m pair reached address = timeCheckedIf reached (m .«time_trackers») (m .settings .«time_max_forward_jump_s») address pair
+
+-- ---- GOOSE: test flag and publishers, the reservation, then clock, retransmission and stream
+
+-- a test frame while blocked, and what the publishers say of any other
+module _ (blockedTest : Bool) (count : ℕ) (place : Found) where
+  pub test-refused : blockedTest ≡ true → Refused Medium PolicyViolation ≡ gooseRuleCheck blockedTest count place
+  unfolding gooseRuleCheck
+  test-refused b = sym (cond-yes _ _ b)
+
+  module _ {found : Found} {missing : Bool} (b : blockedTest ≡ false) (e : found ≡ place) (u : missing ≡ (ltb 0 count && not (isFound found))) where
+    publisher-asked : {x : Bool} → missing ≡ x → (ltb 0 count && not (isFound place)) ≡ x
+    publisher-asked h = answered (u ∙ ap (λ (p : Found). ltb 0 count && not (isFound p)) e) h
+
+    pub unlisted-refused : missing ≡ true → Refused High PolicyViolation ≡ gooseRuleCheck blockedTest count place
+    unfolding gooseRuleCheck
+    unlisted-refused h = sym (cond-no _ _ b ∙ cond-yes _ _ (publisher-asked h))
+
+    pub listed-permitted : missing ≡ false → Rate 0 ≡ gooseRuleCheck blockedTest count place
+    unfolding gooseRuleCheck
+    listed-permitted h = sym (cond-no _ _ b ∙ cond-no _ _ (publisher-asked h))
 
 module _ (m : Iec61850Monitor) (f : GooseFrame) where
-  -- publishers exist, and none fits the frame
-  abbrev gooseNotListed : Bool
-  gooseNotListed = ltb 0 (m .rules .goose .count) && not (isFound (goosePublisher (m .rules .goose) (addressOf (f .«src_mac»)) (controlBlock f)))
+  abbrev gooseSource : ℕ
+  gooseSource = addressOf (f .«src_mac»)
 
-  -- a test frame while blocked
-  pub test-refused : {found : List Finding} → blocked (m .settings) f ≡ true → found ≡ refusal Medium PolicyViolation ∷ [] → ended m found ≡ gooseTest m f
-  unfolding gooseTest
-  test-refused b r = ap (ended m) r ∙ sym (cond-yes _ _ b)
+  -- what test flag and publishers say of the frame
+  abbrev gooseRuled : RuleCheck
+  gooseRuled = gooseRuleCheck (blocked (m .settings) f) (m .rules .goose .count) (goosePublisher (m .rules .goose) gooseSource (controlBlock f))
 
-  -- the publishers, searched by the name as it is kept
-  module _ (size : length (f .«go_cb_ref») ≡ 64) {n address : ℕ} {kept : List ℕ} {place : Found} {missing : Bool}
-      (b : blocked (m .settings) f ≡ false) (l : n ≡ validLen (f .«go_cb_ref_len»)) (k : kept ≡ padded (f .«go_cb_ref») n) (a : address ≡ addressOf (f .«src_mac»))
-      (e : place
-      ≡ firstFitting (m .rules .goose .«src_mac») (m .rules .goose .«go_cb_ref» .octets) (m .rules .goose .«go_cb_ref» .lens)
-      (m .rules .goose .count) address kept n)
-      (u : missing ≡ (ltb 0 (m .rules .goose .count) && not (isFound place))) where
-    not-listed : missing ≡ gooseNotListed
-    unfolding goosePublisher
-    not-listed =
-        let p = m .rules .goose in
-        let octets = kept-octets (f .«go_cb_ref») (f .«go_cb_ref_len») size l k in
-        let len = kept-len (f .«go_cb_ref») (f .«go_cb_ref_len») size l k in
-        let publisher = e ∙ (λ i. firstFitting (p .«src_mac») (p .«go_cb_ref» .octets) (p .«go_cb_ref» .lens) (p .count) (a i) (octets i) (len i)) in
-        u ∙ ap (λ (x : Found). ltb 0 (p .count) && not (isFound x)) publisher
+  -- so says the search by the padded name and its length
+  goose-ruled :
+      {n address : ℕ} {kept : List ℕ} {rule : RuleCheck}
+      → kept ≡ padded (controlBlock f) (length (controlBlock f)) → n ≡ length (controlBlock f) → address ≡ gooseSource
+      → rule
+      ≡ gooseRuleCheck (blocked (m .settings) f) (m .rules .goose .count)
+      (firstFitting (m .rules .goose .«src_mac») (m .rules .goose .«go_cb_ref» .octets) (m .rules .goose .«go_cb_ref» .lens) (m .rules .goose .count) address kept n)
+      → rule ≡ gooseRuled
+  unfolding goosePublisher
+  goose-ruled k l a r =
+      let p = m .rules .goose in
+      r
+      ∙ (λ i. gooseRuleCheck (blocked (m .settings) f) (p .count)
+      (firstFitting (p .«src_mac») (p .«go_cb_ref» .octets) (p .«go_cb_ref» .lens) (p .count) (a i) (k i) (l i)))
 
-    pub unlisted-refused : {found : List Finding} → missing ≡ true → found ≡ refusal High PolicyViolation ∷ [] → ended m found ≡ gooseTest m f
-    unfolding gooseTest gooseAllowed
-    unlisted-refused h r = ap (ended m) r ∙ sym (cond-no _ _ b ∙ cond-yes _ _ (answered not-listed h))
+  -- the chain of the definition, by what they say
+  goose-permitted : permitted m (λ rate. gooseReservation m f) gooseRuled ≡ gooseTest m f
+  unfolding gooseTest gooseAllowed gooseRuleCheck
+  goose-permitted = go (blocked (m .settings) f) (ltb 0 (m .rules .goose .count) && not (isFound (goosePublisher (m .rules .goose) gooseSource (controlBlock f))))
+    where
+      go :
+          (b missing : Bool)
+          → permitted m (λ rate. gooseReservation m f) (cond b (Refused Medium PolicyViolation) (cond missing (Refused High PolicyViolation) (Rate 0)))
+          ≡ cond b (ended m (refusal Medium PolicyViolation ∷ [])) (cond missing (ended m (refusal High PolicyViolation ∷ [])) (gooseReservation m f))
+      go true missing = refl
+      go false true = refl
+      go false false = refl
 
-    pub listed-checked : missing ≡ false → gooseReservation m f ≡ gooseTest m f
-    unfolding gooseTest gooseAllowed
-    listed-checked h = sym (cond-no _ _ b ∙ cond-no _ _ (answered not-listed h))
+  -- the further checks of the frame, each if it is reached
+  abbrev controlBlockAt : Bool → ℕ → CbChecked
+  controlBlockAt permitted address = cbCheckedIf permitted (m .«cb_reservations») (controlBlock f) true address
 
-  -- the reservation of the control block, looked up for the address
-  module _ {address : ℕ} {used : CbChecked}
-      (a : address ≡ addressOf (f .«src_mac»)) (u : used ≡ cbChecked (m .«cb_reservations») (controlBlock f) true address) where
-    goose-used : gooseBound m f used ≡ gooseReservation m f
-    unfolding gooseReservation
-    goose-used = ap (gooseBound m f) (u ∙ ap (cbChecked (m .«cb_reservations») (controlBlock f) true) a)
+  abbrev retxAt : Bool → GooseSeqTable → ℕ → ℕ → Bool
+  retxAt reached t address hash = retxCheckedIf reached (m .settings .«retx_enforce») (m .settings .«retx_schedule») t (address, hash) (gooseTimed f)
 
-    pub goose-hijacked :
-        {found : List Finding} → used .hijack ≡ true → found ≡ refusal High CbHijack ∷ [] → ended (withReservations m (used .table)) found ≡ gooseReservation m f
-    goose-hijacked h r = ap (ended (withReservations m (used .table))) r ∙ sym (cond-yes _ _ h) ∙ goose-used
+  abbrev streamAt : Bool → ℕ → ℕ → GooseChecked
+  streamAt reached address hash = gooseCheckedIf reached (m .«goose_seq») (address, hash) (gooseTimed f)
 
-    pub goose-not-hijacked : used .hijack ≡ false → gooseTimeField (withReservations m (used .table)) f ≡ gooseReservation m f
-    goose-not-hijacked h = sym (cond-no _ _ h) ∙ goose-used
+  -- what the checks leave
+  abbrev gooseLeft : CbChecked → TimeChecked → GooseChecked → Iec61850Monitor
+  gooseLeft used clock stream = withGooseStreams (withClocks (withReservations m (used .table)) (clock .table)) (stream .table)
 
-  -- clock, retransmission and stream of an address and a hash
-  abbrev clockChecked : ℕ → TimeChecked
-  clockChecked address = timeChecked (m .«time_trackers») (m .settings .«time_max_forward_jump_s») address (goosePair f)
+  -- and with what they find
+  abbrev gooseFound : RuleCheck → CbChecked → TimeChecked → Bool → GooseChecked → Checked
+  gooseFound rule used clock outside stream =
+      ended (gooseLeft used clock stream) (firstFindings rule (used .hijack) (clock .alert) ++ streamFindings (stream .replay) outside)
 
-  abbrev scheduleChecked : GooseSeqTable → ℕ → ℕ → Bool
-  scheduleChecked t address hash = retxChecked (m .settings .«retx_enforce») (m .settings .«retx_schedule») t (address, hash) (gooseTimed f)
+  -- the same from whether the checking reaches them
+  abbrev gooseFoundIf : RuleCheck → CbChecked → Bool → Checked
+  gooseFoundIf rule used reached =
+      gooseFound rule used (clockAt m (goosePair f) reached gooseSource) (retxAt reached (m .«goose_seq») gooseSource (fnv1a (controlBlock f)))
+      (streamAt reached gooseSource (fnv1a (controlBlock f)))
 
-  abbrev streamChecked : ℕ → ℕ → GooseChecked
-  streamChecked address hash = gooseChecked (m .«goose_seq») (address, hash) (gooseTimed f)
+  -- a hijack ends the checking, else the frame is checked on
+  after-control-block :
+      (rate : ℕ) (table : CbReservations) (hijack : Bool)
+      → gooseFoundIf (Rate rate) (record { table = table; hijack = hijack }) (not hijack) ≡ gooseBound m f (record { table = table; hijack = hijack })
+  unfolding gooseTimeField retxCheckedIf
+  after-control-block rate table true = refl
+  after-control-block rate table false = refl
 
-  pub goose-time-field-checked :
-      (first second : CheckAlert) {clock : TimeChecked} {address hash : ℕ} {outside : Bool} {stream : GooseChecked}
-      → address ≡ addressOf (f .«src_mac»)
+  -- a refusal by the rules ends it too
+  after-goose-rules :
+      (rule : RuleCheck)
+      → gooseFoundIf rule (controlBlockAt (permits rule) gooseSource) (permits rule && not (controlBlockAt (permits rule) gooseSource .hijack))
+      ≡ permitted m (λ rate. gooseReservation m f) rule
+  unfolding gooseReservation retxCheckedIf
+  after-goose-rules (Refused severity code) = refl
+  after-goose-rules (Rate rate) = after-control-block rate (controlBlockAt true gooseSource .table) (controlBlockAt true gooseSource .hijack)
+
+  -- the checks one after the other, as the code makes them: each answer from those before it
+  pub goose-checked :
+      {n address hash : ℕ} {kept : List ℕ} {rule : RuleCheck} {passed reached outside : Bool} {used : CbChecked} {clock : TimeChecked} {stream : GooseChecked}
+      (first second : CheckAlert)
+      → kept ≡ padded (controlBlock f) (length (controlBlock f)) → n ≡ length (controlBlock f) → address ≡ gooseSource
+      → rule
+      ≡ gooseRuleCheck (blocked (m .settings) f) (m .rules .goose .count)
+      (firstFitting (m .rules .goose .«src_mac») (m .rules .goose .«go_cb_ref» .octets) (m .rules .goose .«go_cb_ref» .lens) (m .rules .goose .count) address kept n)
+      → passed ≡ permits rule
+      → used ≡ controlBlockAt passed address
+      → reached ≡ (passed && not (used .hijack))
+      → clock ≡ clockAt m (goosePair f) reached address
       → hash ≡ fnv1a (controlBlock f)
-      → clock ≡ clockChecked address
-      → outside ≡ scheduleChecked (withoutAges (m .«goose_seq»)) address hash
-      → stream ≡ streamChecked address hash
-      → findingsOf first ≡ clockFindings (clock .alert)
+      → outside ≡ retxAt reached (withoutAges (m .«goose_seq»)) address hash
+      → stream ≡ streamAt reached address hash
+      → findingsOf first ≡ firstFindings rule (used .hijack) (clock .alert)
       → findingsOf second ≡ streamFindings (stream .replay) outside
-      → ended (withGooseStreams (withClocks m (clock .table)) (stream .table)) (alertsOf (record { first = first; second = second; third = Nothing }))
-      ≡ gooseTimeField m f
-  unfolding gooseTimeField
-  goose-time-field-checked first second {clock} {address} {hash} {outside} {stream} e h t o s a b =
-      let outside-by-key = o ∙ retx-columns _ _ (m .«goose_seq») _ _ ∙ (λ i. scheduleChecked (m .«goose_seq») (e i) (h i)) in
-      let stream-by-key = s ∙ (λ i. streamChecked (e i) (h i)) in
-      (λ i. ended (withGooseStreams (withClocks m (clock .table)) (stream .table)) (a i ++ (append-nil (findingsOf second) ∙ b) i))
-      ∙ (λ i. gooseStream (withClocks m (clock .table)) (clockFindings (clock .alert)) (outside-by-key i) (stream-by-key i))
-      ∙ ap (gooseClock m f) (t ∙ ap clockChecked e)
+      → ended (gooseLeft used clock stream) (alertsOf (record { first = first; second = second; third = Nothing })) ≡ gooseTest m f
+  unfolding retxCheckedIf
+  goose-checked {rule = rule} {passed = passed} {reached = reached} {used = used} {clock = clock} {stream = stream} first second k l a r p u g t h o s x y =
+      let scheduled = o ∙ ap (λ (b : Bool). reached && b) (retx-columns _ _ (m .«goose_seq») _ _) in
+      (λ i. ended (gooseLeft used clock stream) (x i ++ (append-nil (findingsOf second) ∙ y) i))
+      ∙ (λ i. gooseFound rule used (t i) (scheduled i) (s i))
+      ∙ (λ i. gooseFound rule used (clockAt m (goosePair f) reached (a i)) (retxAt reached (m .«goose_seq») (a i) (h i)) (streamAt reached (a i) (h i)))
+      ∙ ap (gooseFoundIf rule used) (g ∙ ap (λ (b : Bool). b && not (used .hijack)) p)
+      ∙ ap (λ (c : CbChecked). gooseFoundIf rule c (permits rule && not (c .hijack))) (u ∙ (λ i. controlBlockAt (p i) (a i)))
+      ∙ after-goose-rules rule
+      ∙ ap (permitted m (λ rate. gooseReservation m f)) (goose-ruled k l a r)
+      ∙ goose-permitted
 
 -- ---- SV: the publishers, the reservation, then clock, count and rate
 
@@ -378,10 +479,7 @@ module _ (m : Iec61850Monitor) (f : SvFrame) where
 
   -- the further checks of the frame, each if it is reached
   abbrev dataSetAt : Bool → ℕ → CbChecked
-  dataSetAt permitted address = dataSetUsed permitted (m .«cb_reservations») (nameOf (f .«dataset_ref») (f .«dataset_ref_len»)) address
-
-  abbrev clockAt : Bool → ℕ → TimeChecked
-  clockAt reached address = clockReached reached (m .«time_trackers») (m .settings .«time_max_forward_jump_s») address (svPair f)
+  dataSetAt permitted address = cbCheckedIf permitted (m .«cb_reservations») (nameOf (f .«dataset_ref») (f .«dataset_ref_len»)) false address
 
   abbrev countAt : Bool → SvChecked
   countAt reached = cond reached (svChecked (m .«sv_seq») (svKey f) (f .«smp_cnt»)) (record { table = m .«sv_seq»; outcome = FirstSeen })
@@ -391,8 +489,8 @@ module _ (m : Iec61850Monitor) (f : SvFrame) where
   svLeft used clock count = withSvStreams (withClocks (withReservations m (used .table)) (clock .table)) (count .table)
 
   -- and with what they find
-  abbrev found : RuleCheck → CbChecked → TimeChecked → SvChecked → Checked
-  found rule used clock count =
+  abbrev svFound : RuleCheck → CbChecked → TimeChecked → SvChecked → Checked
+  svFound rule used clock count =
       ended (svLeft used clock count)
       (firstFindings rule (used .hijack) (clock .alert)
       ++ (countFindings (m .settings .«sv_max_smp_cnt_gap») [] (count .outcome)
@@ -404,29 +502,29 @@ module _ (m : Iec61850Monitor) (f : SvFrame) where
   unfolding countFindings isReplay rateFindings
   nothing-further = rw (and-false (ltb 0 (f .«smp_rate»)))
 
-  abbrev source : ℕ
-  source = addressOf (f .«src_mac»)
+  abbrev svSource : ℕ
+  svSource = addressOf (f .«src_mac»)
 
   -- a hijack ends the checking, else the frame is checked on
   after-data-set :
       (rate : ℕ) (table : CbReservations) (hijack : Bool)
-      → found (Rate rate) (record { table = table; hijack = hijack }) (clockAt (not hijack) source) (countAt (not hijack))
+      → svFound (Rate rate) (record { table = table; hijack = hijack }) (clockAt m (svPair f) (not hijack) svSource) (countAt (not hijack))
       ≡ svBound m f rate (record { table = table; hijack = hijack })
   unfolding svTimeField
   after-data-set rate table true = ap (λ (l : List Finding). ended (withReservations m table) (refusal High CbHijack ∷ l)) nothing-further
   after-data-set rate table false =
-      ap (λ (l : List Finding). ended (svLeft (record { table = table; hijack = false }) (clockAt true source) (countAt true)) (clockFindings (clockAt true source .alert) ++ l))
+      ap (λ (l : List Finding). ended (svLeft (record { table = table; hijack = false }) (clockAt m (svPair f) true svSource) (countAt true)) (clockFindings (clockAt m (svPair f) true svSource .alert) ++ l))
       (count-then-rate (m .settings .«sv_max_smp_cnt_gap») (rateFindings (f .«smp_rate») rate) (countAt true .outcome))
 
   -- a refusal by the rules ends it too
-  after-rules :
+  after-sv-rules :
       (rule : RuleCheck)
-      → found rule (dataSetAt (permits rule) source) (clockAt (permits rule && not (dataSetAt (permits rule) source .hijack)) source)
-      (countAt (permits rule && not (dataSetAt (permits rule) source .hijack)))
+      → svFound rule (dataSetAt (permits rule) svSource) (clockAt m (svPair f) (permits rule && not (dataSetAt (permits rule) svSource .hijack)) svSource)
+      (countAt (permits rule && not (dataSetAt (permits rule) svSource .hijack)))
       ≡ permitted m (svReservation m f) rule
   unfolding svReservation
-  after-rules (Refused severity code) = ap (λ (l : List Finding). ended m (refusal severity code ∷ l)) nothing-further
-  after-rules (Rate rate) = after-data-set rate (dataSetAt true source .table) (dataSetAt true source .hijack)
+  after-sv-rules (Refused severity code) = ap (λ (l : List Finding). ended m (refusal severity code ∷ l)) nothing-further
+  after-sv-rules (Rate rate) = after-data-set rate (dataSetAt true svSource .table) (dataSetAt true svSource .hijack)
 
   -- the checks one after the other, as the code makes them: each answer from those before it
   pub sv-checked :
@@ -439,7 +537,7 @@ module _ (m : Iec61850Monitor) (f : SvFrame) where
       → passed ≡ permits rule
       → used ≡ dataSetAt passed address
       → reached ≡ (passed && not (used .hijack))
-      → clock ≡ clockAt reached address
+      → clock ≡ clockAt m (svPair f) reached address
       → count ≡ svKeptCheckedIf reached (m .«sv_seq») kept n (f .«smp_cnt»)
       → findingsOf first ≡ firstFindings rule (used .hijack) (clock .alert)
       → findingsOf second ≡ countFindings (m .settings .«sv_max_smp_cnt_gap») [] (count .outcome)
@@ -452,11 +550,11 @@ module _ (m : Iec61850Monitor) (f : SvFrame) where
       let third-found = z ∙ (λ i. cond (w i) [] (rateFindings (f .«smp_rate») (v i))) in
       let counted = s ∙ ap (λ (c : SvChecked). cond reached c (record { table = m .«sv_seq»; outcome = FirstSeen })) (kept-checked (m .«sv_seq») (svKey f) (f .«smp_cnt») k l) in
       (λ i. ended (svLeft used clock count) (x i ++ (y i ++ third-found i)))
-      ∙ (λ i. found rule used ((t ∙ ap (clockAt reached) a) i) (counted i))
-      ∙ ap (λ (b : Bool). found rule used (clockAt b source) (countAt b)) g
-      ∙ (λ i. found rule used (clockAt (p i && not (used .hijack)) source) (countAt (p i && not (used .hijack))))
-      ∙ ap (λ (c : CbChecked). found rule c (clockAt (permits rule && not (c .hijack)) source) (countAt (permits rule && not (c .hijack)))) (u ∙ (λ i. dataSetAt (p i) (a i)))
-      ∙ after-rules rule
+      ∙ (λ i. svFound rule used ((t ∙ ap (clockAt m (svPair f) reached) a) i) (counted i))
+      ∙ ap (λ (b : Bool). svFound rule used (clockAt m (svPair f) b svSource) (countAt b)) g
+      ∙ (λ i. svFound rule used (clockAt m (svPair f) (p i && not (used .hijack)) svSource) (countAt (p i && not (used .hijack))))
+      ∙ ap (λ (c : CbChecked). svFound rule c (clockAt m (svPair f) (permits rule && not (c .hijack)) svSource) (countAt (permits rule && not (c .hijack)))) (u ∙ (λ i. dataSetAt (p i) (a i)))
+      ∙ after-sv-rules rule
       ∙ ap (permitted m (svReservation m f)) (sv-ruled k l a r)
 
 -- ---- a frame counted, checked and reported: `after` is the monitor that the checks leave

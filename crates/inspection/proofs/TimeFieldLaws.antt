@@ -19,8 +19,7 @@ use Rattle.records.proofs.TableLaws.{target-found, value-found, target-new, val
 use Rattle.inspection.specs.declared.time_field.TimeTrackers.{TimeTrackers}
 use Rattle.inspection.specs.declared.time_field.TimePlan.{TimePlan}
 use Rattle.inspection.specs.declared.time_field.TimeChecked.{TimeChecked}
-use Rattle.inspection.specs.InspectSv.{clockReached}
-use Rattle.inspection.specs.TimeField.{clocks, hasClock, earlier, clockAlert, timePlan, timeChecked}
+use Rattle.inspection.specs.TimeField.{clocks, hasClock, earlier, clockAlert, timePlan, timeChecked, timeCheckedIf}
 
 module _ (limit keptSeconds keptFraction seconds fraction : ℕ) where
   abbrev alerts : Bool
@@ -104,8 +103,8 @@ module _ (t : TimeTrackers) (limit address : ℕ) (pair : ℕ × ℕ) where
 
   -- a clock that the checking does not reach, none, and one that it reaches
   module _ (reached : Bool) where
-    pub clock-not-reached : reached ≡ false → record { table = t; alert = false } ≡ clockReached reached t limit address pair
+    pub clock-not-reached : reached ≡ false → record { table = t; alert = false } ≡ timeCheckedIf reached t limit address pair
     clock-not-reached e = sym (cond-no _ _ e)
 
-    pub clock-reached : {c : TimeChecked} → reached ≡ true → c ≡ timeChecked t limit address pair → c ≡ clockReached reached t limit address pair
+    pub clock-reached : {c : TimeChecked} → reached ≡ true → c ≡ timeChecked t limit address pair → c ≡ timeCheckedIf reached t limit address pair
     clock-reached e k = k ∙ sym (cond-yes _ _ e)

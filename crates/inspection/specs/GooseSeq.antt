@@ -128,3 +128,11 @@ unfoldable pub goosePlan : GooseSeqTable → ℕ × ℕ → (ℕ × ℕ) × ℕ 
 goosePlan t key new =
     goosePlanOf (target gooseStreams First t key) (gooseReplay (valueOf gooseStreams t key) (new .0))
     (after (λ i. i) keptNumbers (valueOf gooseStreams t key) new)
+
+-- the streams after a frame that the checking may not reach: such a frame changes nothing
+abbrev pub gooseCheckedIf : Bool → GooseSeqTable → ℕ × ℕ → (ℕ × ℕ) × ℕ → GooseChecked
+gooseCheckedIf reached t key new = cond reached (gooseChecked t key new) (record { table = t; replay = false })
+
+-- what the look-up answers where the checking may not reach it
+unfoldable pub retxCheckedIf : Bool → Bool → RetxSchedule → GooseSeqTable → ℕ × ℕ → (ℕ × ℕ) × ℕ → Bool
+retxCheckedIf reached enforce schedule t key new = reached && retxChecked enforce schedule t key new

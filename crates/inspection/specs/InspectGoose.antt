@@ -6,6 +6,7 @@ use lib.Dec.{ltb}
 use Rattle.records.specs.declared.alert.AlertSeverity.the-variants.{Medium, High}
 use Rattle.records.specs.declared.alert.AlertCode.the-variants.{ReplayDetected, PolicyViolation, CbHijack, RetransmissionAnomaly}
 use Rattle.records.specs.declared.frame.GooseFrame.{GooseFrame}
+use Rattle.records.specs.declared.search.Found.{Found}
 use Rattle.records.specs.Alert.{sourceGoose}
 use Rattle.records.specs.Search.{isFound}
 use Rattle.inspection.specs.declared.goose_publisher.GoosePublishers.{GoosePublishers}
@@ -16,6 +17,8 @@ use Rattle.inspection.specs.declared.monitor.Inspected.{Inspected}
 use Rattle.inspection.specs.declared.settings.Settings.{Settings}
 use Rattle.inspection.specs.declared.reservation.CbReservations.{CbReservations}
 use Rattle.inspection.specs.declared.reservation.CbChecked.{CbChecked}
+use Rattle.inspection.specs.declared.rules.RuleCheck.{RuleCheck}
+use Rattle.inspection.specs.declared.rules.RuleCheck.the-variants.{Refused, Rate}
 use Rattle.inspection.specs.declared.time_field.TimeTrackers.{TimeTrackers}
 use Rattle.inspection.specs.declared.time_field.TimeChecked.{TimeChecked}
 use Rattle.inspection.specs.Address.{addressOf}
@@ -81,6 +84,12 @@ unfoldable pub inspectGoose : Iec61850Monitor → GooseFrame → Inspected
 inspectGoose m f = reported sourceGoose (f .«st_num») (f .«timestamp_us») (gooseTest (countedGoose m) f)
 
 -- ---- the checks over the columns of a monitor, for the code
+
+-- what the test flag and the publishers say of a frame, from whether it is a test frame while blocked, how many publishers there are, and
+-- the place of the one that fits
+unfoldable pub gooseRuleCheck : Bool → ℕ → Found → RuleCheck
+gooseRuleCheck blockedTest count found =
+    cond blockedTest (Refused Medium PolicyViolation) (cond (ltb 0 count && not (isFound found)) (Refused High PolicyViolation) (Rate 0))
 
 -- a monitor with these parts in place of its own: what a GOOSE inspection reads and changes
 abbrev pub withGooseParts : Iec61850Monitor → Settings → GoosePublishers → CbReservations → TimeTrackers → GooseSeqTable → Iec61850Monitor

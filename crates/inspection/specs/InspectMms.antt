@@ -1,6 +1,6 @@
 -- The inspection of an MMS frame (01, "Refusals in checking order", 4 to 8; "Remembered tables", reservation).
 use Prim.Native.Nat.{ℕ}
-use mathlib.Core.Bool.{Bool, false, _&&_, _||_, not, cond}
+use mathlib.Core.Bool.{Bool, true, false, _&&_, _||_, not, cond}
 use mathlib.Core.List.{List, [], _∷_}
 use lib.Dec.{eqb, ltb}
 use lib.ListN.{getD}
@@ -85,6 +85,23 @@ unfoldable pub inspectMms : Iec61850Monitor → MmsFrame → Inspected
 inspectMms m f = reported sourceMms (f .«invoke_id») (f .«timestamp_us») (mmsChecks (countedMms m) f)
 
 -- ---- the checks over the columns of a monitor, for the code
+
+-- the first alerts: what the rules or the bucket refuse
+abbrev pub mmsFindings : RuleCheck → Bool → List Finding
+mmsFindings (Refused severity code) allowed = refusal severity code ∷ []
+mmsFindings (Rate rate) allowed = cond allowed [] (refusal Medium RateExceeded ∷ [])
+
+-- the reservations after a control action, and whether there was a place, true where nothing is reserved
+unfoldable pub cbControlled : CbReservations → MmsFrame → Reserved
+cbControlled r f =
+    cond (eqb (serviceNumber (f .«service_type»)) 11) (reserved r (domainName f) (f .«control_block_is_goose») (f .«client_id»))
+    (cond (eqb (serviceNumber (f .«service_type»)) 12 || eqb (serviceNumber (f .«service_type»)) 10)
+    (record { table = released r (domainName f) (f .«control_block_is_goose») (f .«client_id»); taken = true })
+    (record { table = r; taken = true }))
+
+-- the same where the checking may not reach it: such a frame changes nothing
+abbrev pub cbControlledIf : Bool → CbReservations → MmsFrame → Reserved
+cbControlledIf reached r f = cond reached (cbControlled r f) (record { table = r; taken = true })
 
 -- a monitor with these parts in place of its own: what an MMS inspection reads and changes
 abbrev pub withMmsParts : Iec61850Monitor → Settings → MmsRules → RateBuckets → CbReservations → Iec61850Monitor

@@ -32,7 +32,7 @@ use Rattle.inspection.specs.declared.sv_seq.SvSeqOutcome.the-variants.{F
 use Rattle.inspection.specs.declared.time_field.TimeChecked.{TimeChecked}
 use Rattle.inspection.specs.Address.{addressOf}
 use Rattle.inspection.specs.Monitor.{mmsTotalInspected, gooseTotalInspected, withTotals, countedSv, withReservations, withClocks, withSvStreams}
-use Rattle.inspection.specs.Report.{Finding, Checked, refusal, notice, clockFindings, ended, permitted, reported}
+use Rattle.inspection.specs.Report.{Finding, Checked, refusal, notice, clockFindings, ended, permitted, rateGiven, reported}
 use Rattle.inspection.specs.Reservation.{cbChecked}
 use Rattle.inspection.specs.SvPublisher.{svPublisher}
 use Rattle.inspection.specs.SvSeq.{svKey, svChecked}
@@ -131,20 +131,6 @@ svMonitorOf m settings publishers reservations clocks streams total next alerts 
     withTotals (withSvParts m settings publishers reservations clocks streams) (mmsTotalInspected m) (gooseTotalInspected m) total
     (record { «next_alert_id» = next; «total_alerts» = alerts })
 
--- the reservations after a frame that the rules may permit, of this data set and address
-abbrev pub dataSetUsed : Bool → CbReservations → List ℕ → ℕ → CbChecked
-dataSetUsed permitted r name address = cond permitted (cbChecked r name false address) (record { table = r; hijack = false })
-
--- the clocks after a frame that the checking may reach
-abbrev pub clockReached : Bool → TimeTrackers → ℕ → ℕ → ℕ × ℕ → TimeChecked
-clockReached reached t limit address pair = cond reached (timeChecked t limit address pair) (record { table = t; alert = false })
-
--- the first alerts: what ended the checking, or the clock's
-abbrev pub firstFindings : RuleCheck → Bool → Bool → List Finding
-firstFindings (Refused severity code) hijack clock = refusal severity code ∷ []
-firstFindings (Rate rate) hijack clock = cond hijack (refusal High CbHijack ∷ []) (clockFindings clock)
-
 -- the rate that a frame's is compared with, none where the checking ended before
 abbrev pub rateReached : RuleCheck → Bool → ℕ
-rateReached (Refused severity code) hijack = 0
-rateReached (Rate rate) hijack = cond hijack 0 rate
+rateReached rule hijack = cond hijack 0 (rateGiven rule)

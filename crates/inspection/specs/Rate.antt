@@ -1,8 +1,9 @@
 -- Rates (01, "Bucket": the key is the invoke id; an existing bucket keeps its capacity).
 use Prim.Native.Nat.{ℕ}
-use mathlib.Core.Bool.{Bool, true}
+use mathlib.Core.Bool.{Bool, true, cond}
 use mathlib.Core.List.{List}
 use mathlib.Core.Option.{Option, none, some}
+use lib.Dec.{ltb}
 use lib.ListN.{getD, set, replicate}
 use Rattle.records.specs.declared.ageing.EqualAges.the-variants.{Last}
 use Rattle.records.specs.declared.bucket.RateBucket.{RateBucket}
@@ -80,3 +81,7 @@ ratePlan t invokeId rate time =
       bucket = after newBucket nextBucket (valueOf buckets t invokeId) (rate, time);
       allowed = withinRate (valueOf buckets t invokeId) (rate, time);
     }
+
+-- the buckets after a request of a rule with this rate: a rate of 0 is no limit, and changes nothing
+abbrev pub rateCheckedIf : RateBuckets → ℕ → ℕ → ℕ → RateChecked
+rateCheckedIf t invokeId rate time = cond (ltb 0 rate) (rateChecked t invokeId rate time) (record { table = t; allowed = true })

@@ -5,7 +5,7 @@ use mathlib.Core.List.{List, [], _∷_, _++_, foldl}
 use Rattle.records.specs.declared.alert.AlertSeverity.{AlertSeverity}
 use Rattle.records.specs.declared.alert.AlertSeverity.the-variants.{High}
 use Rattle.records.specs.declared.alert.AlertCode.{AlertCode}
-use Rattle.records.specs.declared.alert.AlertCode.the-variants.{TimeSyncSpoofing}
+use Rattle.records.specs.declared.alert.AlertCode.the-variants.{CbHijack, TimeSyncSpoofing}
 use Rattle.records.specs.declared.result.InspectResult.{InspectResult}
 use Rattle.records.specs.declared.result.Pushed.{Pushed}
 use Rattle.records.specs.Result.{cleanResult, pushed}
@@ -57,6 +57,11 @@ abbrev pub permits : RuleCheck → Bool
 permits (Refused severity code) = false
 permits (Rate rate) = true
 
+-- the rate that they give it, 0 where they refuse it
+abbrev pub rateGiven : RuleCheck → ℕ
+rateGiven (Refused severity code) = 0
+rateGiven (Rate rate) = rate
+
 -- a result with this allowed flag
 abbrev pub withAllowed : InspectResult → Bool → InspectResult
 withAllowed r allowed =
@@ -94,6 +99,11 @@ findingsOf (Notice severity code) = notice severity code ∷ []
 -- the alerts of three answers in their order
 abbrev pub alertsOf : CheckAlerts → List Finding
 alertsOf a = findingsOf (a .first) ++ (findingsOf (a .second) ++ findingsOf (a .third))
+
+-- the first alerts of a GOOSE or SV frame: what ended the checking, or the clock's
+abbrev pub firstFindings : RuleCheck → Bool → Bool → List Finding
+firstFindings (Refused severity code) hijack clock = refusal severity code ∷ []
+firstFindings (Rate rate) hijack clock = cond hijack (refusal High CbHijack ∷ []) (clockFindings clock)
 
 -- whether a check found nothing
 abbrev pub isNothing : CheckAlert → Bool

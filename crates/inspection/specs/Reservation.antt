@@ -176,3 +176,7 @@ cbKeptReleased r octets len isGoose client =
     cond (eqb len 0) (withActive r (freedBelow (ownedBy r client) (r .active) 16))
     (freedAt r
     (first (ownedAt (r .«cb_ref» .octets) (r .«cb_ref» .lens) (r .«is_goose») (r .«owner_client_id») (r .active) octets len isGoose client)))
+
+-- the use by a frame that the rules may refuse: such a frame changes nothing
+abbrev pub cbCheckedIf : Bool → CbReservations → List ℕ → Bool → ℕ → CbChecked
+cbCheckedIf permitted r name isGoose address = cond permitted (cbChecked r name isGoose address) (record { table = r; hijack = false })

@@ -70,3 +70,7 @@ clockTableOf addresses seconds fractions active used tick =
 -- the slot that a frame's clock uses, and whether its pair alerts
 unfoldable pub timePlan : TimeTrackers → ℕ → ℕ → ℕ × ℕ → TimePlan
 timePlan t limit address pair = record { slot = target clocks First t address; alert = clockAlert limit (valueOf clocks t address) pair }
+
+-- the clocks after a frame that the checking may not reach: such a frame changes nothing
+abbrev pub timeCheckedIf : Bool → TimeTrackers → ℕ → ℕ → ℕ × ℕ → TimeChecked
+timeCheckedIf reached t limit address pair = cond reached (timeChecked t limit address pair) (record { table = t; alert = false })

@@ -4,7 +4,7 @@ ghost use mathlib.Core.Path.{_≡_};
 ghost use mathlib.Core.List.{[]};
 ghost use Prim.Native.Nat.{min, _-_, _^_};
 ghost use Rattle.records.specs.Search.{firstUsed};
-ghost use Rattle.inspection.specs.GooseSeq.{hasStream, noGooseStreams, replays, outsideTolerance, retxChecked, gooseChecked, gooseTableOf, goosePlanOf, goosePlan};
+ghost use Rattle.inspection.specs.GooseSeq.{hasStream, noGooseStreams, replays, outsideTolerance, retxCheckedIf, gooseCheckedIf, gooseTableOf, goosePlanOf, goosePlan};
 use records::ageing::Ageing;
 use records::ageing::EqualAges;
 use records::ageing::next_tick;
@@ -141,8 +141,10 @@ fn outside_tolerance(
     !schedule.within_tolerance(observed, expected)
 }
 
-// Whether a frame of a known stream misses the schedule, if that is enforced. The ages of the streams are not read.
+// Whether a frame of a known stream misses the schedule, if that is enforced and the checking reaches it. The ages of the streams are
+// not read.
 pub fn retx_anomaly<'a>(
+    reached: bool,
     src_macs: &'a [u64; 16],
     hashes: &'a [u32; 16],
     last_st_num: &'a [u32; 16],
@@ -157,8 +159,11 @@ pub fn retx_anomaly<'a>(
     sq_num: u32,
     now_us: u64,
 ) -> bool
-    ensures { λ r. ⌜ r ≡ retxChecked enforce schedule (gooseTableOf (now («src_macs» .entry)) (now (hashes .entry)) (now («last_st_num» .entry)) (now («last_sq_num» .entry)) (now («last_seen_us» .entry)) (now (active .entry)) [] 0) («src_mac», «go_cb_ref_hash») ((«st_num», «sq_num»), «now_us») ⌝ }
+    ensures { λ r. ⌜ r ≡ retxCheckedIf reached enforce schedule (gooseTableOf (now («src_macs» .entry)) (now (hashes .entry)) (now («last_st_num» .entry)) (now («last_sq_num» .entry)) (now («last_seen_us» .entry)) (now (active .entry)) [] 0) («src_mac», «go_cb_ref_hash») ((«st_num», «sq_num»), «now_us») ⌝ }
 {
+    if !reached {
+        return false;
+    }
     if !enforce {
         return false;
     }
@@ -210,8 +215,9 @@ pub fn goose_plan<'a>(
     GoosePlan::new(slot, false, st_num, sq_num, now_us)
 }
 
-// Stores a frame in the columns of the streams, and answers whether it is a replay.
+// Stores a frame in the columns of the streams, if the checking reaches it, and answers whether it is a replay.
 pub fn check_goose_seq_in<'a>(
+    reached: bool,
     src_macs: &'a mut [u64; 16],
     hashes: &'a mut [u32; 16],
     last_st_num: &'a mut [u32; 16],
@@ -227,8 +233,11 @@ pub fn check_goose_seq_in<'a>(
     now_us: u64,
 ) -> bool
     ensures { λ r.
-        ⌜ record { table = gooseTableOf (now («src_macs» .exit)) (now (hashes .exit)) (now («last_st_num» .exit)) (now («last_sq_num» .exit)) (now («last_seen_us» .exit)) (now (active .exit)) (now («last_used» .exit)) (now (tick .exit)); replay = r } ≡ gooseChecked (gooseTableOf (now («src_macs» .entry)) (now (hashes .entry)) (now («last_st_num» .entry)) (now («last_sq_num» .entry)) (now («last_seen_us» .entry)) (now (active .entry)) (now («last_used» .entry)) (now (tick .entry))) («src_mac», «go_cb_ref_hash») ((«st_num», «sq_num»), «now_us») ⌝ }
+        ⌜ record { table = gooseTableOf (now («src_macs» .exit)) (now (hashes .exit)) (now («last_st_num» .exit)) (now («last_sq_num» .exit)) (now («last_seen_us» .exit)) (now (active .exit)) (now («last_used» .exit)) (now (tick .exit)); replay = r } ≡ gooseCheckedIf reached (gooseTableOf (now («src_macs» .entry)) (now (hashes .entry)) (now («last_st_num» .entry)) (now («last_sq_num» .entry)) (now («last_seen_us» .entry)) (now (active .entry)) (now («last_used» .entry)) (now (tick .entry))) («src_mac», «go_cb_ref_hash») ((«st_num», «sq_num»), «now_us») ⌝ }
 {
+    if !reached {
+        return false;
+    }
     let plan = goose_plan(
         src_macs,
         hashes,

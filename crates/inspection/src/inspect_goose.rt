@@ -1,5 +1,5 @@
 // The inspection of a GOOSE frame, carried over from industrial/iec61850-monitor/src/lib.rs of craton-shield a31d888527
-// (Apache-2.0) and changed: the checks in stages, over lent columns; the alerts added at the end.
+// (Apache-2.0) and changed: the checks in a row, over lent columns; the alerts added at the end.
 ghost use Prim.Native.Nat.{ℕ};
 ghost use mathlib.Core.Path.{_≡_};
 ghost use mathlib.Core.Bool.{_&&_, not};
@@ -8,13 +8,13 @@ ghost use lib.Dec.{ltb};
 ghost use Rattle.records.specs.Hash.{fnv1a};
 ghost use Rattle.records.specs.Name.{nameOf};
 ghost use Rattle.records.specs.Search.{isFound};
+ghost use Rattle.inspection.specs.GoosePublisher.{firstFitting};
 ghost use Rattle.inspection.specs.GooseSeq.{gooseTableOf};
-ghost use Rattle.inspection.specs.InspectGoose.{streamFindings, gooseTimeField, gooseReservation, gooseTest, inspectGoose, withGooseParts, gooseMonitorOf};
+ghost use Rattle.inspection.specs.InspectGoose.{streamFindings, gooseRuleCheck, gooseTest, inspectGoose, withGooseParts, gooseMonitorOf};
 ghost use Rattle.inspection.specs.Report.{ended, findingsOf, alertsOf};
 ghost use Rattle.inspection.specs.Reservation.{cbTableOf};
 ghost use Rattle.inspection.specs.TimeField.{clockTableOf};
 use crate::address::address_of;
-use crate::goose_publisher::GoosePublishers;
 use crate::goose_publisher::goose_publisher;
 use crate::goose_seq::GooseSeqTable;
 use crate::goose_seq::check_goose_seq_in;
@@ -23,14 +23,14 @@ use crate::monitor::Iec61850Monitor;
 use crate::monitor::Inspected;
 use crate::report::CheckAlert;
 use crate::report::CheckAlerts;
-use crate::report::clock_alert;
+use crate::report::first_alert;
+use crate::report::goes_on;
 use crate::report::push_alerts_in;
-use crate::report::refused;
-use crate::reservation::CbReservations;
-use crate::reservation::cb_hijack_check_in;
+use crate::reservation::hijack_check_if;
+use crate::rules::RuleCheck;
 use crate::settings::Settings;
 use crate::time_field::TimeTrackers;
-use crate::time_field::check_time_field_in;
+use crate::time_field::clock_check_if;
 use records::ageing::Ageing;
 use records::alert::AlertCode;
 use records::alert::AlertSeverity;
@@ -65,147 +65,6 @@ fn name_hash(go_cb_ref: [u8; 64], go_cb_ref_len: u8) -> u32
     fnv1a_32(&go_cb_ref[..n])
 }
 
-// The clock, the retransmission and the stream. A clock alert does not end the checking; a replay leaves out the
-// retransmission's alert, which is looked up before anything of the stream is stored.
-fn goose_time_field<'a>(
-    f: GooseFrame,
-    settings: Settings,
-    clock_macs: &'a mut [u64; 16],
-    clock_seconds: &'a mut [u32; 16],
-    clock_fractions: &'a mut [u32; 16],
-    clock_active: &'a mut [bool; 16],
-    clock_used: &'a mut [u32; 16],
-    clock_tick: &'a mut u32,
-    src_macs: &'a mut [u64; 16],
-    hashes: &'a mut [u32; 16],
-    last_st_num: &'a mut [u32; 16],
-    last_sq_num: &'a mut [u32; 16],
-    last_seen_us: &'a mut [u64; 16],
-    active: &'a mut [bool; 16],
-    used: &'a mut [u32; 16],
-    tick: &'a mut u32,
-) -> CheckAlerts
-    ensures { λ r.
-        ⌜ ((m : Iec61850Monitor) (publishers : GoosePublishers) (reservations : CbReservations) → ended (withGooseParts m settings publishers reservations (clockTableOf (now («clock_macs» .exit)) (now («clock_seconds» .exit)) (now («clock_fractions» .exit)) (now («clock_active» .exit)) (now («clock_used» .exit)) (now («clock_tick» .exit))) (gooseTableOf (now («src_macs» .exit)) (now (hashes .exit)) (now («last_st_num» .exit)) (now («last_sq_num» .exit)) (now («last_seen_us» .exit)) (now (active .exit)) (now (used .exit)) (now (tick .exit)))) (alertsOf r) ≡ gooseTimeField (withGooseParts m settings publishers reservations (clockTableOf (now («clock_macs» .entry)) (now («clock_seconds» .entry)) (now («clock_fractions» .entry)) (now («clock_active» .entry)) (now («clock_used» .entry)) (now («clock_tick» .entry))) (gooseTableOf (now («src_macs» .entry)) (now (hashes .entry)) (now («last_st_num» .entry)) (now («last_sq_num» .entry)) (now («last_seen_us» .entry)) (now (active .entry)) (now (used .entry)) (now (tick .entry)))) f) ⌝ }
-{
-    let mac = f.src_mac;
-    let src_mac = address_of(mac);
-    let clock = check_time_field_in(
-        clock_macs,
-        clock_seconds,
-        clock_fractions,
-        clock_active,
-        clock_used,
-        clock_tick,
-        src_mac,
-        f.t_seconds_since_epoch,
-        f.t_fraction_of_second,
-        settings.time_max_forward_jump_s,
-    );
-    let name = f.go_cb_ref;
-    let hash = name_hash(name, f.go_cb_ref_len);
-    let schedule = settings.retx_schedule;
-    let outside = retx_anomaly(
-        src_macs,
-        hashes,
-        last_st_num,
-        last_sq_num,
-        last_seen_us,
-        active,
-        settings.retx_enforce,
-        schedule,
-        src_mac,
-        hash,
-        f.st_num,
-        f.sq_num,
-        f.timestamp_us,
-    );
-    let replay = check_goose_seq_in(
-        src_macs,
-        hashes,
-        last_st_num,
-        last_sq_num,
-        last_seen_us,
-        active,
-        used,
-        tick,
-        src_mac,
-        hash,
-        f.st_num,
-        f.sq_num,
-        f.timestamp_us,
-    );
-    CheckAlerts {
-        first: clock_alert(clock),
-        second: stream_alert(replay, outside),
-        third: CheckAlert::Nothing,
-    }
-}
-
-// The reservation of the control block, which may end the checking; then clock, retransmission and stream.
-fn goose_reservation<'a>(
-    f: GooseFrame,
-    settings: Settings,
-    cb_refs: &'a [u8; 1024],
-    cb_lens: &'a [u8; 16],
-    cb_kinds: &'a [bool; 16],
-    cb_active: &'a [bool; 16],
-    cb_bound: &'a mut [bool; 16],
-    cb_macs: &'a mut [u64; 16],
-    clock_macs: &'a mut [u64; 16],
-    clock_seconds: &'a mut [u32; 16],
-    clock_fractions: &'a mut [u32; 16],
-    clock_active: &'a mut [bool; 16],
-    clock_used: &'a mut [u32; 16],
-    clock_tick: &'a mut u32,
-    src_macs: &'a mut [u64; 16],
-    hashes: &'a mut [u32; 16],
-    last_st_num: &'a mut [u32; 16],
-    last_sq_num: &'a mut [u32; 16],
-    last_seen_us: &'a mut [u64; 16],
-    active: &'a mut [bool; 16],
-    used: &'a mut [u32; 16],
-    tick: &'a mut u32,
-) -> CheckAlerts
-    ensures { λ r.
-        ⌜ ((m : Iec61850Monitor) (publishers : GoosePublishers) (owners : List ℕ) → ended (withGooseParts m settings publishers (cbTableOf (now («cb_refs» .entry)) (now («cb_lens» .entry)) (now («cb_kinds» .entry)) owners (now («cb_bound» .exit)) (now («cb_macs» .exit)) (now («cb_active» .entry))) (clockTableOf (now («clock_macs» .exit)) (now («clock_seconds» .exit)) (now («clock_fractions» .exit)) (now («clock_active» .exit)) (now («clock_used» .exit)) (now («clock_tick» .exit))) (gooseTableOf (now («src_macs» .exit)) (now (hashes .exit)) (now («last_st_num» .exit)) (now («last_sq_num» .exit)) (now («last_seen_us» .exit)) (now (active .exit)) (now (used .exit)) (now (tick .exit)))) (alertsOf r) ≡ gooseReservation (withGooseParts m settings publishers (cbTableOf (now («cb_refs» .entry)) (now («cb_lens» .entry)) (now («cb_kinds» .entry)) owners (now («cb_bound» .entry)) (now («cb_macs» .entry)) (now («cb_active» .entry))) (clockTableOf (now («clock_macs» .entry)) (now («clock_seconds» .entry)) (now («clock_fractions» .entry)) (now («clock_active» .entry)) (now («clock_used» .entry)) (now («clock_tick» .entry))) (gooseTableOf (now («src_macs» .entry)) (now (hashes .entry)) (now («last_st_num» .entry)) (now («last_sq_num» .entry)) (now («last_seen_us» .entry)) (now (active .entry)) (now (used .entry)) (now (tick .entry)))) f) ⌝ }
-{
-    let mac = f.src_mac;
-    let name = f.go_cb_ref;
-    if cb_hijack_check_in(
-        cb_refs,
-        cb_lens,
-        cb_kinds,
-        cb_active,
-        cb_bound,
-        cb_macs,
-        name,
-        f.go_cb_ref_len,
-        true,
-        address_of(mac),
-    ) {
-        return refused(AlertSeverity::High, AlertCode::CbHijack);
-    }
-    goose_time_field(
-        f,
-        settings,
-        clock_macs,
-        clock_seconds,
-        clock_fractions,
-        clock_active,
-        clock_used,
-        clock_tick,
-        src_macs,
-        hashes,
-        last_st_num,
-        last_sq_num,
-        last_seen_us,
-        active,
-        used,
-        tick,
-    )
-}
-
 // Whether publishers exist and none was found.
 fn not_listed(count: u8, found: Found) -> bool
     ensures { λ r. ⌜ r ≡ (ltb 0 count && not (isFound found)) ⌝ }
@@ -216,7 +75,40 @@ fn not_listed(count: u8, found: Found) -> bool
     }
 }
 
-// The test flag and the publishers, which may end the checking; then the reservation and what follows it.
+// What the test flag and the publishers say of a frame. For a test frame while blocked no publisher is searched for.
+fn goose_rule<'a>(
+    block_test_frames: bool,
+    test: bool,
+    rule_macs: &'a [u64; 16],
+    rule_refs: &'a [u8; 1024],
+    rule_lens: &'a [u8; 16],
+    rule_count: u8,
+    src_mac: u64,
+    name: &'a [u8; 64],
+    len: u8,
+) -> RuleCheck
+    ensures { λ r. ⌜ r ≡ gooseRuleCheck («block_test_frames» && test) «rule_count» (firstFitting (now («rule_macs» .entry)) (now («rule_refs» .entry)) (now («rule_lens» .entry)) «rule_count» «src_mac» (now (name .entry)) len) ⌝ }
+{
+    if block_test_frames && test {
+        return RuleCheck::Refused(AlertSeverity::Medium, AlertCode::PolicyViolation);
+    }
+    let found = goose_publisher(
+        rule_macs,
+        rule_refs,
+        rule_lens,
+        rule_count,
+        src_mac,
+        name,
+        len,
+    );
+    if not_listed(rule_count, found) {
+        return RuleCheck::Refused(AlertSeverity::High, AlertCode::PolicyViolation);
+    }
+    RuleCheck::Rate(0)
+}
+
+// The checks of a GOOSE frame in the columns of a monitor. They follow each other without a branch: one that is not reached changes
+// nothing. The retransmission is looked up before anything of the stream is stored.
 pub fn goose_checks<'a>(
     f: GooseFrame,
     settings: Settings,
@@ -248,39 +140,70 @@ pub fn goose_checks<'a>(
     ensures { λ r.
         ⌜ ((m : Iec61850Monitor) (owners : List ℕ) → ended (withGooseParts m settings (record { «src_mac» = (now («rule_macs» .entry)); «go_cb_ref» = record { octets = (now («rule_refs» .entry)); lens = (now («rule_lens» .entry)) }; count = «rule_count» }) (cbTableOf (now («cb_refs» .entry)) (now («cb_lens» .entry)) (now («cb_kinds» .entry)) owners (now («cb_bound» .exit)) (now («cb_macs» .exit)) (now («cb_active» .entry))) (clockTableOf (now («clock_macs» .exit)) (now («clock_seconds» .exit)) (now («clock_fractions» .exit)) (now («clock_active» .exit)) (now («clock_used» .exit)) (now («clock_tick» .exit))) (gooseTableOf (now («src_macs» .exit)) (now (hashes .exit)) (now («last_st_num» .exit)) (now («last_sq_num» .exit)) (now («last_seen_us» .exit)) (now (active .exit)) (now (used .exit)) (now (tick .exit)))) (alertsOf r) ≡ gooseTest (withGooseParts m settings (record { «src_mac» = (now («rule_macs» .entry)); «go_cb_ref» = record { octets = (now («rule_refs» .entry)); lens = (now («rule_lens» .entry)) }; count = «rule_count» }) (cbTableOf (now («cb_refs» .entry)) (now («cb_lens» .entry)) (now («cb_kinds» .entry)) owners (now («cb_bound» .entry)) (now («cb_macs» .entry)) (now («cb_active» .entry))) (clockTableOf (now («clock_macs» .entry)) (now («clock_seconds» .entry)) (now («clock_fractions» .entry)) (now («clock_active» .entry)) (now («clock_used» .entry)) (now («clock_tick» .entry))) (gooseTableOf (now («src_macs» .entry)) (now (hashes .entry)) (now («last_st_num» .entry)) (now («last_sq_num» .entry)) (now («last_seen_us» .entry)) (now (active .entry)) (now (used .entry)) (now (tick .entry)))) f) ⌝ }
 {
-    if settings.block_test_frames && f.test {
-        return refused(AlertSeverity::Medium, AlertCode::PolicyViolation);
-    }
     let mac = f.src_mac;
+    let src_mac = address_of(mac);
     let len = valid_len(f.go_cb_ref_len);
-    let name = padded(&f.go_cb_ref, len);
-    let found = goose_publisher(
+    let name = f.go_cb_ref;
+    let kept = padded(&name, len);
+    let rule = goose_rule(
+        settings.block_test_frames,
+        f.test,
         rule_macs,
         rule_refs,
         rule_lens,
         rule_count,
-        address_of(mac),
-        &name,
+        src_mac,
+        &kept,
         len,
     );
-    if not_listed(rule_count, found) {
-        return refused(AlertSeverity::High, AlertCode::PolicyViolation);
-    }
-    goose_reservation(
-        f,
-        settings,
+    let permitted = rule.permits();
+    let hijack = hijack_check_if(
+        permitted,
         cb_refs,
         cb_lens,
         cb_kinds,
         cb_active,
         cb_bound,
         cb_macs,
+        name,
+        f.go_cb_ref_len,
+        true,
+        src_mac,
+    );
+    let reached = goes_on(permitted, hijack);
+    let clock = clock_check_if(
+        reached,
         clock_macs,
         clock_seconds,
         clock_fractions,
         clock_active,
         clock_used,
         clock_tick,
+        src_mac,
+        f.t_seconds_since_epoch,
+        f.t_fraction_of_second,
+        settings.time_max_forward_jump_s,
+    );
+    let hash = name_hash(name, f.go_cb_ref_len);
+    let schedule = settings.retx_schedule;
+    let outside = retx_anomaly(
+        reached,
+        src_macs,
+        hashes,
+        last_st_num,
+        last_sq_num,
+        last_seen_us,
+        active,
+        settings.retx_enforce,
+        schedule,
+        src_mac,
+        hash,
+        f.st_num,
+        f.sq_num,
+        f.timestamp_us,
+    );
+    let replay = check_goose_seq_in(
+        reached,
         src_macs,
         hashes,
         last_st_num,
@@ -289,7 +212,17 @@ pub fn goose_checks<'a>(
         active,
         used,
         tick,
-    )
+        src_mac,
+        hash,
+        f.st_num,
+        f.sq_num,
+        f.timestamp_us,
+    );
+    CheckAlerts {
+        first: first_alert(rule, hijack, clock),
+        second: stream_alert(replay, outside),
+        third: CheckAlert::Nothing,
+    }
 }
 
 // The inspection of a GOOSE frame in the columns of a monitor.

@@ -1,29 +1,26 @@
 // The inspection of an MMS frame, carried over from industrial/iec61850-monitor/src/lib.rs of craton-shield a31d888527
-// (Apache-2.0) and changed: the rules decide first, then the bucket and the reservations are used, over lent columns; the alerts are
-// added at the end.
+// (Apache-2.0) and changed: the checks in a row, over lent columns, the rules first; the alerts added at the end.
 ghost use Prim.Native.Nat.{ℕ};
 ghost use mathlib.Core.Path.{_≡_};
 ghost use mathlib.Core.Bool.{Bool, _&&_, _||_, not};
 ghost use mathlib.Core.List.{List};
 ghost use lib.Dec.{eqb, ltb};
-ghost use Rattle.inspection.specs.InspectMms.{domainName, fullFindings, mmsReserved, mmsControl, mmsRate, mmsRule, mmsMask, mmsChecks, inspectMms, withMmsParts, mmsMonitorOf};
+ghost use Rattle.inspection.specs.InspectMms.{domainName, fullFindings, mmsFindings, mmsRule, mmsMask, mmsChecks, inspectMms, cbControlledIf, withMmsParts, mmsMonitorOf};
 ghost use Rattle.inspection.specs.MmsRule.{hasBit};
-ghost use Rattle.inspection.specs.Monitor.{withRates, withReservations};
 ghost use Rattle.inspection.specs.Rate.{bucketTableOf};
 ghost use Rattle.inspection.specs.Report.{ended, findingsOf, alertsOf};
-ghost use Rattle.inspection.specs.Reservation.{reserved, released, cbTableOf};
+ghost use Rattle.inspection.specs.Reservation.{released, cbTableOf};
 use crate::mms_rule::MmsRules;
 use crate::mms_rule::first_rule;
 use crate::mms_rule::has_bit;
 use crate::monitor::Iec61850Monitor;
 use crate::monitor::Inspected;
 use crate::rate::RateBuckets;
-use crate::rate::rate_check_in;
+use crate::rate::rate_check_if;
 use crate::report::CheckAlert;
 use crate::report::CheckAlerts;
-use crate::report::no_alerts;
+use crate::report::goes_on;
 use crate::report::push_alerts_in;
-use crate::report::refused;
 use crate::reservation::CbReservations;
 use crate::reservation::release_cb_in;
 use crate::reservation::reserve_cb_in;
@@ -100,42 +97,6 @@ fn full_alert(taken: bool) -> CheckAlert
     }
 }
 
-// SelectControl reserves the control block that it names.
-fn mms_reserve<'a>(
-    f: MmsFrame,
-    cb_refs: &'a mut [u8; 1024],
-    cb_lens: &'a mut [u8; 16],
-    cb_kinds: &'a mut [bool; 16],
-    cb_owners: &'a mut [u32; 16],
-    cb_bound: &'a mut [bool; 16],
-    cb_macs: &'a mut [u64; 16],
-    cb_active: &'a mut [bool; 16],
-) -> CheckAlerts
-    ensures { λ r.
-        ⌜ ((m : Iec61850Monitor) → ended (withReservations m (cbTableOf (now («cb_refs» .exit)) (now («cb_lens» .exit)) (now («cb_kinds» .exit)) (now («cb_owners» .exit)) (now («cb_bound» .exit)) (now («cb_macs» .exit)) (now («cb_active» .exit)))) (alertsOf r) ≡ mmsReserved m (reserved (cbTableOf (now («cb_refs» .entry)) (now («cb_lens» .entry)) (now («cb_kinds» .entry)) (now («cb_owners» .entry)) (now («cb_bound» .entry)) (now («cb_macs» .entry)) (now («cb_active» .entry))) (domainName f) (f .«control_block_is_goose») (f .«client_id»))) ⌝ }
-{
-    let len = valid_len(f.domain_len);
-    let name = padded(&f.domain, len);
-    let taken = reserve_cb_in(
-        cb_refs,
-        cb_lens,
-        cb_kinds,
-        cb_owners,
-        cb_bound,
-        cb_macs,
-        cb_active,
-        &name,
-        len,
-        f.client_id,
-        f.control_block_is_goose,
-    );
-    CheckAlerts {
-        first: full_alert(taken),
-        second: CheckAlert::Nothing,
-        third: CheckAlert::Nothing,
-    }
-}
-
 // CancelControl and Conclude release the client's reservation of the name, with an empty name all of the client's.
 fn mms_release<'a>(
     f: MmsFrame,
@@ -173,8 +134,25 @@ fn releases(number: u8) -> bool
     number == 10
 }
 
-// The control actions, by the service and not its raw number.
-fn mms_control<'a>(
+// What the rules or the bucket refuse.
+fn mms_refusal(rule: RuleCheck, allowed: bool) -> CheckAlert
+    ensures { λ r. ⌜ findingsOf r ≡ mmsFindings rule allowed ⌝ }
+{
+    match rule {
+        RuleCheck::Refused(severity, code) => CheckAlert::Refusal(severity, code),
+        RuleCheck::Rate(_) => {
+            if allowed {
+                return CheckAlert::Nothing;
+            }
+            CheckAlert::Refusal(AlertSeverity::Medium, AlertCode::RateExceeded)
+        }
+    }
+}
+
+// The control action of a frame, if the checking reaches it, by the service and not its raw number: SelectControl 11 reserves the
+// control block that it names. Answers whether there was a place, true where nothing is reserved.
+fn mms_control_if<'a>(
+    reached: bool,
     f: MmsFrame,
     cb_refs: &'a mut [u8; 1024],
     cb_lens: &'a mut [u8; 16],
@@ -183,15 +161,19 @@ fn mms_control<'a>(
     cb_bound: &'a mut [bool; 16],
     cb_macs: &'a mut [u64; 16],
     cb_active: &'a mut [bool; 16],
-) -> CheckAlerts
+) -> bool
     ensures { λ r.
-        ⌜ ((m : Iec61850Monitor) → ended (withReservations m (cbTableOf (now («cb_refs» .exit)) (now («cb_lens» .exit)) (now («cb_kinds» .exit)) (now («cb_owners» .exit)) (now («cb_bound» .exit)) (now («cb_macs» .exit)) (now («cb_active» .exit)))) (alertsOf r) ≡ mmsControl (withReservations m (cbTableOf (now («cb_refs» .entry)) (now («cb_lens» .entry)) (now («cb_kinds» .entry)) (now («cb_owners» .entry)) (now («cb_bound» .entry)) (now («cb_macs» .entry)) (now («cb_active» .entry)))) f) ⌝ }
+        ⌜ record { table = cbTableOf (now («cb_refs» .exit)) (now («cb_lens» .exit)) (now («cb_kinds» .exit)) (now («cb_owners» .exit)) (now («cb_bound» .exit)) (now («cb_macs» .exit)) (now («cb_active» .exit)); taken = r } ≡ cbControlledIf reached (cbTableOf (now («cb_refs» .entry)) (now («cb_lens» .entry)) (now («cb_kinds» .entry)) (now («cb_owners» .entry)) (now («cb_bound» .entry)) (now («cb_macs» .entry)) (now («cb_active» .entry))) f ⌝ }
 {
+    if !reached {
+        return true;
+    }
     let service = f.service_type;
     let number = service.number();
     if number == 11 {
-        return mms_reserve(
-            f,
+        let len = valid_len(f.domain_len);
+        let name = padded(&f.domain, len);
+        return reserve_cb_in(
             cb_refs,
             cb_lens,
             cb_kinds,
@@ -199,77 +181,21 @@ fn mms_control<'a>(
             cb_bound,
             cb_macs,
             cb_active,
+            &name,
+            len,
+            f.client_id,
+            f.control_block_is_goose,
         );
     }
     if releases(number) {
         mms_release(f, cb_refs, cb_lens, cb_kinds, cb_owners, cb_active);
-        return no_alerts();
+        return true;
     }
-    no_alerts()
+    true
 }
 
-// The bucket of a rule with a rate, which may end the checking; then the control action.
-fn mms_rate<'a>(
-    f: MmsFrame,
-    rate: u16,
-    keys: &'a mut [u64; 16],
-    tokens: &'a mut [u16; 16],
-    capacity: &'a mut [u16; 16],
-    last_refill_us: &'a mut [u64; 16],
-    active: &'a mut [bool; 16],
-    used: &'a mut [u32; 16],
-    tick: &'a mut u32,
-    cb_refs: &'a mut [u8; 1024],
-    cb_lens: &'a mut [u8; 16],
-    cb_kinds: &'a mut [bool; 16],
-    cb_owners: &'a mut [u32; 16],
-    cb_bound: &'a mut [bool; 16],
-    cb_macs: &'a mut [u64; 16],
-    cb_active: &'a mut [bool; 16],
-) -> CheckAlerts
-    ensures { λ r.
-        ⌜ ((m : Iec61850Monitor) → ended (withReservations (withRates m (bucketTableOf (now (keys .exit)) (now (tokens .exit)) (now (capacity .exit)) (now («last_refill_us» .exit)) (now (active .exit)) (now (used .exit)) (now (tick .exit)))) (cbTableOf (now («cb_refs» .exit)) (now («cb_lens» .exit)) (now («cb_kinds» .exit)) (now («cb_owners» .exit)) (now («cb_bound» .exit)) (now («cb_macs» .exit)) (now («cb_active» .exit)))) (alertsOf r) ≡ mmsRate (withReservations (withRates m (bucketTableOf (now (keys .entry)) (now (tokens .entry)) (now (capacity .entry)) (now («last_refill_us» .entry)) (now (active .entry)) (now (used .entry)) (now (tick .entry)))) (cbTableOf (now («cb_refs» .entry)) (now («cb_lens» .entry)) (now («cb_kinds» .entry)) (now («cb_owners» .entry)) (now («cb_bound» .entry)) (now («cb_macs» .entry)) (now («cb_active» .entry)))) f rate) ⌝ }
-{
-    if rate == 0 {
-        return mms_control(
-            f,
-            cb_refs,
-            cb_lens,
-            cb_kinds,
-            cb_owners,
-            cb_bound,
-            cb_macs,
-            cb_active,
-        );
-    }
-    let allowed = rate_check_in(
-        keys,
-        tokens,
-        capacity,
-        last_refill_us,
-        active,
-        used,
-        tick,
-        f.invoke_id,
-        rate,
-        f.timestamp_us,
-    );
-    if !allowed {
-        return refused(AlertSeverity::Medium, AlertCode::RateExceeded);
-    }
-    mms_control(
-        f,
-        cb_refs,
-        cb_lens,
-        cb_kinds,
-        cb_owners,
-        cb_bound,
-        cb_macs,
-        cb_active,
-    )
-}
-
-// The rules, which may end the checking; then the bucket and the control action.
+// The checks of an MMS frame in the columns of a monitor: the rules, the bucket of a rule with a rate, the control action. They follow
+// each other without a branch: one that is not reached changes nothing.
 pub fn mms_checks<'a>(
     f: MmsFrame,
     settings: Settings,
@@ -293,27 +219,37 @@ pub fn mms_checks<'a>(
         ⌜ ((m : Iec61850Monitor) → ended (withMmsParts m settings rules (bucketTableOf (now (keys .exit)) (now (tokens .exit)) (now (capacity .exit)) (now («last_refill_us» .exit)) (now (active .exit)) (now (used .exit)) (now (tick .exit))) (cbTableOf (now («cb_refs» .exit)) (now («cb_lens» .exit)) (now («cb_kinds» .exit)) (now («cb_owners» .exit)) (now («cb_bound» .exit)) (now («cb_macs» .exit)) (now («cb_active» .exit)))) (alertsOf r) ≡ mmsChecks (withMmsParts m settings rules (bucketTableOf (now (keys .entry)) (now (tokens .entry)) (now (capacity .entry)) (now («last_refill_us» .entry)) (now (active .entry)) (now (used .entry)) (now (tick .entry))) (cbTableOf (now («cb_refs» .entry)) (now («cb_lens» .entry)) (now («cb_kinds» .entry)) (now («cb_owners» .entry)) (now («cb_bound» .entry)) (now («cb_macs» .entry)) (now («cb_active» .entry)))) f) ⌝ }
 {
     let service = f.service_type;
-    let raw = f.raw_service_type;
-    match mms_mask(settings, rules, raw, service.is_write()) {
-        RuleCheck::Refused(severity, code) => refused(severity, code),
-        RuleCheck::Rate(rate) => mms_rate(
-            f,
-            rate,
-            keys,
-            tokens,
-            capacity,
-            last_refill_us,
-            active,
-            used,
-            tick,
-            cb_refs,
-            cb_lens,
-            cb_kinds,
-            cb_owners,
-            cb_bound,
-            cb_macs,
-            cb_active,
-        ),
+    let rule = mms_mask(settings, rules, f.raw_service_type, service.is_write());
+    let rate = rule.rate_given();
+    let allowed = rate_check_if(
+        keys,
+        tokens,
+        capacity,
+        last_refill_us,
+        active,
+        used,
+        tick,
+        f.invoke_id,
+        rate,
+        f.timestamp_us,
+    );
+    let permitted = rule.permits();
+    let reached = goes_on(permitted, !allowed);
+    let taken = mms_control_if(
+        reached,
+        f,
+        cb_refs,
+        cb_lens,
+        cb_kinds,
+        cb_owners,
+        cb_bound,
+        cb_macs,
+        cb_active,
+    );
+    CheckAlerts {
+        first: mms_refusal(rule, allowed),
+        second: full_alert(taken),
+        third: CheckAlert::Nothing,
     }
 }
 

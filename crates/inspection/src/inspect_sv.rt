@@ -1,11 +1,9 @@
 // The inspection of a sampled-values frame, carried over from industrial/iec61850-monitor/src/lib.rs of craton-shield
 // a31d888527 (Apache-2.0) and changed: the checks in a row, over lent columns; the alerts added at the end.
-ghost use Prim.Native.Nat.{ℕ};
 ghost use mathlib.Core.Path.{_≡_};
-ghost use mathlib.Core.Bool.{_&&_, not, cond};
-ghost use mathlib.Core.List.{List, []};
-ghost use Rattle.records.specs.Name.{nameOf};
-ghost use Rattle.inspection.specs.InspectSv.{rateFindings, countFindings, svRuleCheck, svBinding, inspectSv, inspectRawSv, withSvParts, dataSetUsed, clockReached, firstFindings, rateReached, svMonitorOf};
+ghost use mathlib.Core.Bool.{cond};
+ghost use mathlib.Core.List.{[]};
+ghost use Rattle.inspection.specs.InspectSv.{rateFindings, countFindings, svRuleCheck, svBinding, inspectSv, inspectRawSv, withSvParts, rateReached, svMonitorOf};
 ghost use Rattle.inspection.specs.Report.{ended, findingsOf, alertsOf};
 ghost use Rattle.inspection.specs.Reservation.{cbTableOf};
 ghost use Rattle.inspection.specs.SvPublisher.{lastFitting};
@@ -17,9 +15,10 @@ use crate::monitor::Inspected;
 use crate::monitor::RawInspected;
 use crate::report::CheckAlert;
 use crate::report::CheckAlerts;
-use crate::report::clock_alert;
+use crate::report::first_alert;
+use crate::report::goes_on;
 use crate::report::push_alerts_in;
-use crate::reservation::cb_hijack_check_in;
+use crate::reservation::hijack_check_if;
 use crate::rules::RuleCheck;
 use crate::settings::Settings;
 use crate::sv_publisher::PublisherMatch;
@@ -28,8 +27,7 @@ use crate::sv_seq::SvSeqOutcome;
 use crate::sv_seq::SvSeqTable;
 use crate::sv_seq::check_sv_seq_in;
 use crate::time_field::TimeTrackers;
-use crate::time_field::check_time_field_in;
-use crate::time_field::has_clock;
+use crate::time_field::clock_check_if;
 use records::ageing::Ageing;
 use records::alert::AlertCode;
 use records::alert::AlertSeverity;
@@ -135,115 +133,14 @@ pub fn sv_rule<'a>(
     sv_rule_check(found, strict, rule_count, rule_rates)
 }
 
-// The use of the data set's reservation by a frame that the rules permit: whether it is bound to another address. A frame without a
-// data set is not looked up.
-pub fn sv_hijack_check<'a>(
-    permitted: bool,
-    cb_refs: &'a [u8; 1024],
-    cb_lens: &'a [u8; 16],
-    cb_kinds: &'a [bool; 16],
-    cb_active: &'a [bool; 16],
-    cb_bound: &'a mut [bool; 16],
-    cb_macs: &'a mut [u64; 16],
-    dataset_ref: [u8; 64],
-    dataset_ref_len: u8,
-    src_mac: u64,
-) -> bool
-    ensures { λ r.
-        ⌜ ((owners : List ℕ) → record { table = cbTableOf (now («cb_refs» .entry)) (now («cb_lens» .entry)) (now («cb_kinds» .entry)) owners (now («cb_bound» .exit)) (now («cb_macs» .exit)) (now («cb_active» .entry)); hijack = r } ≡ dataSetUsed permitted (cbTableOf (now («cb_refs» .entry)) (now («cb_lens» .entry)) (now («cb_kinds» .entry)) owners (now («cb_bound» .entry)) (now («cb_macs» .entry)) (now («cb_active» .entry))) (nameOf «dataset_ref» «dataset_ref_len») «src_mac») ⌝ }
-{
-    if !permitted {
-        return false;
-    }
-    if dataset_ref_len == 0 {
-        return false;
-    }
-    cb_hijack_check_in(
-        cb_refs,
-        cb_lens,
-        cb_kinds,
-        cb_active,
-        cb_bound,
-        cb_macs,
-        dataset_ref,
-        dataset_ref_len,
-        false,
-        src_mac,
-    )
-}
-
-// Whether the checking reaches the clock and the count.
-pub fn goes_on(permitted: bool, hijack: bool) -> bool
-    ensures { λ r. ⌜ r ≡ (permitted && not hijack) ⌝ }
-{
-    if permitted { !hijack } else { false }
-}
-
-// The clock check of a frame, if the checking reaches it. A frame without a clock is not looked up.
-pub fn sv_clock_check<'a>(
-    reached: bool,
-    clock_macs: &'a mut [u64; 16],
-    clock_seconds: &'a mut [u32; 16],
-    clock_fractions: &'a mut [u32; 16],
-    clock_active: &'a mut [bool; 16],
-    clock_used: &'a mut [u32; 16],
-    clock_tick: &'a mut u32,
-    src_mac: u64,
-    t_secs: u32,
-    t_frac: u32,
-    max_forward_jump_s: u32,
-) -> bool
-    ensures { λ r.
-        ⌜ record { table = clockTableOf (now («clock_macs» .exit)) (now («clock_seconds» .exit)) (now («clock_fractions» .exit)) (now («clock_active» .exit)) (now («clock_used» .exit)) (now («clock_tick» .exit)); alert = r } ≡ clockReached reached (clockTableOf (now («clock_macs» .entry)) (now («clock_seconds» .entry)) (now («clock_fractions» .entry)) (now («clock_active» .entry)) (now («clock_used» .entry)) (now («clock_tick» .entry))) «max_forward_jump_s» «src_mac» («t_secs», «t_frac») ⌝ }
-{
-    if !reached {
-        return false;
-    }
-    if !has_clock(t_secs, t_frac) {
-        return false;
-    }
-    check_time_field_in(
-        clock_macs,
-        clock_seconds,
-        clock_fractions,
-        clock_active,
-        clock_used,
-        clock_tick,
-        src_mac,
-        t_secs,
-        t_frac,
-        max_forward_jump_s,
-    )
-}
-
-// The first alert of a frame: what ended the checking, or the clock's.
-pub fn first_alert(rule: RuleCheck, hijack: bool, clock: bool) -> CheckAlert
-    ensures { λ r. ⌜ findingsOf r ≡ firstFindings rule hijack clock ⌝ }
-{
-    match rule {
-        RuleCheck::Refused(severity, code) => CheckAlert::Refusal(severity, code),
-        RuleCheck::Rate(_) => {
-            if hijack {
-                return CheckAlert::Refusal(AlertSeverity::High, AlertCode::CbHijack);
-            }
-            clock_alert(clock)
-        }
-    }
-}
-
 // The rate that a frame's is compared with: that of its rule, none where the checking ended before.
 pub fn rate_reached(rule: RuleCheck, hijack: bool) -> u16
     ensures { λ r. ⌜ r ≡ rateReached rule hijack ⌝ }
 {
-    match rule {
-        RuleCheck::Refused(_, _) => 0,
-        RuleCheck::Rate(rate) => {
-            if hijack {
-                return 0;
-            }
-            rate
-        }
+    if hijack {
+        return 0;
     }
+    rule.rate_given()
 }
 
 // The checks of an SV frame in the columns of a monitor. They follow each other without a branch: one that is not reached changes
@@ -296,7 +193,7 @@ pub fn sv_checks<'a>(
     );
     let permitted = rule.permits();
     let dataset_ref = frame.dataset_ref;
-    let hijack = sv_hijack_check(
+    let hijack = hijack_check_if(
         permitted,
         cb_refs,
         cb_lens,
@@ -306,10 +203,11 @@ pub fn sv_checks<'a>(
         cb_macs,
         dataset_ref,
         frame.dataset_ref_len,
+        false,
         src_mac,
     );
     let reached = goes_on(permitted, hijack);
-    let clock = sv_clock_check(
+    let clock = clock_check_if(
         reached,
         clock_macs,
         clock_seconds,

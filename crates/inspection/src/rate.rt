@@ -1,7 +1,7 @@
 // Rate limits of MMS requests, carried over from industrial/iec61850-monitor/src/lib.rs of craton-shield a31d888527
 // (Apache-2.0) and changed: a column for each field.
 ghost use mathlib.Core.Path.{_≡_};
-ghost use Rattle.inspection.specs.Rate.{noBuckets, bucketTableOf, ratePlan, rateChecked};
+ghost use Rattle.inspection.specs.Rate.{noBuckets, bucketTableOf, ratePlan, rateChecked, rateCheckedIf};
 use records::ageing::Ageing;
 use records::ageing::EqualAges;
 use records::ageing::next_tick;
@@ -128,4 +128,37 @@ pub fn rate_check_in<'a>(
     last_refill_us[slot] = plan.bucket.last_refill_us;
     use_slot(active, last_used, tick, slot);
     plan.allowed
+}
+
+// The same for a rule with this rate, if it has one: a rate of 0 is no limit, and nothing is looked up.
+pub fn rate_check_if<'a>(
+    keys: &'a mut [u64; 16],
+    tokens: &'a mut [u16; 16],
+    capacity: &'a mut [u16; 16],
+    last_refill_us: &'a mut [u64; 16],
+    active: &'a mut [bool; 16],
+    last_used: &'a mut [u32; 16],
+    tick: &'a mut u32,
+    key: u32,
+    max_rate: u16,
+    now_us: u64,
+) -> bool
+    ensures { λ r.
+        ⌜ record { table = bucketTableOf (now (keys .exit)) (now (tokens .exit)) (now (capacity .exit)) (now («last_refill_us» .exit)) (now (active .exit)) (now («last_used» .exit)) (now (tick .exit)); allowed = r } ≡ rateCheckedIf (bucketTableOf (now (keys .entry)) (now (tokens .entry)) (now (capacity .entry)) (now («last_refill_us» .entry)) (now (active .entry)) (now («last_used» .entry)) (now (tick .entry))) key «max_rate» «now_us» ⌝ }
+{
+    if max_rate == 0 {
+        return true;
+    }
+    rate_check_in(
+        keys,
+        tokens,
+        capacity,
+        last_refill_us,
+        active,
+        last_used,
+        tick,
+        key,
+        max_rate,
+        now_us,
+    )
 }

@@ -1,9 +1,11 @@
 // What the checks of an inspection found, and the result that reports it, carried over from
 // industrial/iec61850-monitor/src/lib.rs of craton-shield a31d888527 (Apache-2.0) and changed: alerts are added once, at the end.
 ghost use mathlib.Core.Path.{_≡_};
-ghost use mathlib.Core.List.{[], _∷_, foldl};
+ghost use mathlib.Core.Bool.{_&&_, not};
+ghost use mathlib.Core.List.{foldl};
 ghost use Rattle.records.specs.Result.{cleanResult};
-ghost use Rattle.inspection.specs.Report.{refusal, clockFindings, findingsOf, alertsOf, isNothing, noneFound, notedOf, reportedNext};
+ghost use Rattle.inspection.specs.Report.{clockFindings, findingsOf, alertsOf, firstFindings, isNothing, noneFound, notedOf, reportedNext};
+use crate::rules::RuleCheck;
 use records::alert::AlertCode;
 use records::alert::AlertSeverity;
 use records::result::AlertCounters;
@@ -25,36 +27,36 @@ pub struct CheckAlerts {
     pub third: CheckAlert,
 }
 
-// One alert, which refuses the frame and ends the checking.
-pub fn refused(severity: AlertSeverity, code: AlertCode) -> CheckAlerts
-    ensures { λ r. ⌜ alertsOf r ≡ refusal severity code ∷ [] ⌝ }
-{
-    CheckAlerts {
-        first: CheckAlert::Refusal(severity, code),
-        second: CheckAlert::Nothing,
-        third: CheckAlert::Nothing,
-    }
-}
-
-// No check found anything.
-pub fn no_alerts() -> CheckAlerts
-    ensures { λ r. ⌜ alertsOf r ≡ [] ⌝ }
-{
-    CheckAlerts {
-        first: CheckAlert::Nothing,
-        second: CheckAlert::Nothing,
-        third: CheckAlert::Nothing,
-    }
-}
-
 // A clock alert refuses, and checking goes on.
-pub fn clock_alert(alert: bool) -> CheckAlert
+fn clock_alert(alert: bool) -> CheckAlert
     ensures { λ r. ⌜ findingsOf r ≡ clockFindings alert ⌝ }
 {
     if alert {
         CheckAlert::Refusal(AlertSeverity::High, AlertCode::TimeSyncSpoofing)
     } else {
         CheckAlert::Nothing
+    }
+}
+
+// Whether the checking goes on: the rules permit the frame, and the check behind them does not refuse it.
+pub fn goes_on(permitted: bool, refused: bool) -> bool
+    ensures { λ r. ⌜ r ≡ (permitted && not refused) ⌝ }
+{
+    if permitted { !refused } else { false }
+}
+
+// The first alert of a GOOSE or SV frame: what ended the checking, or the clock's.
+pub fn first_alert(rule: RuleCheck, hijack: bool, clock: bool) -> CheckAlert
+    ensures { λ r. ⌜ findingsOf r ≡ firstFindings rule hijack clock ⌝ }
+{
+    match rule {
+        RuleCheck::Refused(severity, code) => CheckAlert::Refusal(severity, code),
+        RuleCheck::Rate(_) => {
+            if hijack {
+                return CheckAlert::Refusal(AlertSeverity::High, AlertCode::CbHijack);
+            }
+            clock_alert(clock)
+        }
     }
 }
 

@@ -7,7 +7,7 @@ ghost use mathlib.Core.List.{List};
 ghost use Rattle.records.specs.Ageing.{firstFree};
 ghost use Rattle.records.specs.Name.{nameOf};
 ghost use Rattle.records.specs.Search.{first, hasNumber};
-ghost use Rattle.inspection.specs.Reservation.{sameKind, reservesAt, ownedAt, placeOr, freedBelow, cbChecked, cbTableOf, cbKeptReserved, cbKeptReleased, noReservations};
+ghost use Rattle.inspection.specs.Reservation.{sameKind, reservesAt, ownedAt, placeOr, freedBelow, cbChecked, cbCheckedIf, cbTableOf, cbKeptReserved, cbKeptReleased, noReservations};
 use records::ageing::first_free;
 use records::name::Names;
 use records::name::padded;
@@ -270,4 +270,42 @@ pub fn cb_hijack_check_in<'a>(
     bound[i] = true;
     bound_src_mac[i] = src_mac;
     false
+}
+
+// The use of a control block or data set by a frame that the rules may refuse: such a frame is not looked up, and one without a name
+// neither.
+pub fn hijack_check_if<'a>(
+    permitted: bool,
+    octets: &'a [u8; 1024],
+    lens: &'a [u8; 16],
+    kinds: &'a [bool; 16],
+    active: &'a [bool; 16],
+    bound: &'a mut [bool; 16],
+    bound_src_mac: &'a mut [u64; 16],
+    cb_ref: [u8; 64],
+    cb_ref_len: u8,
+    is_goose: bool,
+    src_mac: u64,
+) -> bool
+    ensures { λ r.
+        ⌜ ((owners : List ℕ) → record { table = cbTableOf (now (octets .entry)) (now (lens .entry)) (now (kinds .entry)) owners (now (bound .exit)) (now («bound_src_mac» .exit)) (now (active .entry)); hijack = r } ≡ cbCheckedIf permitted (cbTableOf (now (octets .entry)) (now (lens .entry)) (now (kinds .entry)) owners (now (bound .entry)) (now («bound_src_mac» .entry)) (now (active .entry))) (nameOf «cb_ref» «cb_ref_len») «is_goose» «src_mac») ⌝ }
+{
+    if !permitted {
+        return false;
+    }
+    if cb_ref_len == 0 {
+        return false;
+    }
+    cb_hijack_check_in(
+        octets,
+        lens,
+        kinds,
+        active,
+        bound,
+        bound_src_mac,
+        cb_ref,
+        cb_ref_len,
+        is_goose,
+        src_mac,
+    )
 }

@@ -1,7 +1,7 @@
 // Rule lists, carried over from industrial/iec61850-monitor/src/lib.rs of craton-shield a31d888527 (Apache-2.0) and changed: a
 // count above 16, which no call leads to, counts as 16.
 ghost use mathlib.Core.Path.{_≡_};
-ghost use Rattle.inspection.specs.Report.{permits};
+ghost use Rattle.inspection.specs.Report.{permits, rateGiven};
 ghost use Rattle.inspection.specs.Rules.{ruleCount, addAnswer};
 use records::alert::AlertCode;
 use records::alert::AlertSeverity;
@@ -27,6 +27,16 @@ impl RuleCheck {
         match self {
             RuleCheck::Refused(_, _) => false,
             RuleCheck::Rate(_) => true,
+        }
+    }
+
+    // The rate that they give it, 0 where they refuse it.
+    pub fn rate_given(self) -> u16
+        ensures { λ r. ⌜ r ≡ rateGiven self ⌝ }
+    {
+        match self {
+            RuleCheck::Refused(_, _) => 0,
+            RuleCheck::Rate(rate) => rate,
         }
     }
 }

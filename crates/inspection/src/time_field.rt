@@ -2,7 +2,7 @@
 // column for each field; no flag for a clock without a pair, since there is none.
 ghost use mathlib.Core.Path.{_≡_};
 ghost use mathlib.Core.Option.{some};
-ghost use Rattle.inspection.specs.TimeField.{noClocks, hasClock, clockAlert, clockTableOf, timePlan, timeChecked};
+ghost use Rattle.inspection.specs.TimeField.{noClocks, hasClock, clockAlert, clockTableOf, timePlan, timeChecked, timeCheckedIf};
 use records::ageing::Ageing;
 use records::ageing::EqualAges;
 use records::ageing::next_tick;
@@ -150,4 +150,41 @@ pub fn check_time_field_in<'a>(
     last_t_fraction[slot] = t_frac;
     use_slot(active, last_used, tick, slot);
     plan.alert
+}
+
+// The clock check of a frame that the checking may not reach: such a frame is not looked up, and one without a clock neither.
+pub fn clock_check_if<'a>(
+    reached: bool,
+    src_macs: &'a mut [u64; 16],
+    last_t_seconds: &'a mut [u32; 16],
+    last_t_fraction: &'a mut [u32; 16],
+    active: &'a mut [bool; 16],
+    last_used: &'a mut [u32; 16],
+    tick: &'a mut u32,
+    src_mac: u64,
+    t_secs: u32,
+    t_frac: u32,
+    max_forward_jump_s: u32,
+) -> bool
+    ensures { λ r.
+        ⌜ record { table = clockTableOf (now («src_macs» .exit)) (now («last_t_seconds» .exit)) (now («last_t_fraction» .exit)) (now (active .exit)) (now («last_used» .exit)) (now (tick .exit)); alert = r } ≡ timeCheckedIf reached (clockTableOf (now («src_macs» .entry)) (now («last_t_seconds» .entry)) (now («last_t_fraction» .entry)) (now (active .entry)) (now («last_used» .entry)) (now (tick .entry))) «max_forward_jump_s» «src_mac» («t_secs», «t_frac») ⌝ }
+{
+    if !reached {
+        return false;
+    }
+    if !has_clock(t_secs, t_frac) {
+        return false;
+    }
+    check_time_field_in(
+        src_macs,
+        last_t_seconds,
+        last_t_fraction,
+        active,
+        last_used,
+        tick,
+        src_mac,
+        t_secs,
+        t_frac,
+        max_forward_jump_s,
+    )
 }

@@ -1,7 +1,7 @@
 -- `inspect_sv_batch` meets its contract. The invariant: the columns are those of the monitor after the frames passed, and their
 -- verdicts are written.
 use Prim.Native.Nat.{ℕ, _+_, _*_, _≤_, _<_, _-_}
-use mathlib.Core.Bool.{Bool}
+use mathlib.Core.Bool.{Bool, false}
 use mathlib.Core.List.{List, foldl}
 use mathlib.Core.Logic.{⊎-elim}
 use mathlib.Core.Path.{_≡_, sym, ap, _∙_}
@@ -18,14 +18,14 @@ use Rattle.records.proofs.NameLaws.{kept-len, kept-octets}
 use Rattle.inspection.specs.declared.report.CheckAlerts.{CheckAlerts}
 use Rattle.inspection.specs.declared.monitor.Iec61850Monitor.{Iec61850Monitor}
 use Rattle.batch.specs.Batch.{batchCount, frameAt, svAfter, svVerdicts}
-use Rattle.inspection.specs.InspectSv.{withSvParts, dataSetUsed}
+use Rattle.inspection.specs.InspectSv.{withSvParts}
 use Rattle.inspection.specs.Monitor.{mmsTotalInspected, gooseTotalInspected, withTotals}
 use Rattle.inspection.specs.Report.{reportedNext, alertsOf, notedOf}
-use Rattle.inspection.specs.Reservation.{cbTableOf}
+use Rattle.inspection.specs.Reservation.{cbTableOf, cbCheckedIf}
 use Rattle.inspection.specs.SvSeq.{svTableOf}
 use Rattle.inspection.specs.TimeField.{clockTableOf}
 use Rattle.batch.proofs.BatchLaws.{record-fits, all-passed, cut-frame, none-after, no-verdicts, length-verdicts, after-more, verdicts-more}
-use Rattle.inspection.proofs.ReservationLaws.{data-set-empty}
+use Rattle.inspection.proofs.ReservationLaws.{nameless-not-used}
 use Rattle.inspection.proofs.StageLaws.{nothing-noted, sv-checked}
 use Rattle.batch.proofs.inspect_sv_batch.Statement.{statement}
 use Rattle.batch.proofs.inspect_sv_batch.Tie as tie
@@ -132,14 +132,14 @@ sv-rule-requires c κs = search needs
 permits-requires : tie.Need-permits-requires Inv-loop μ-loop
 permits-requires c κs = search needs
 
-sv-hijack-check-requires : tie.Need-sv-hijack-check-requires Inv-loop μ-loop
-sv-hijack-check-requires c κs = search needs
+hijack-check-if-requires : tie.Need-hijack-check-if-requires Inv-loop μ-loop
+hijack-check-if-requires c κs = search needs
 
 goes-on-requires : tie.Need-goes-on-requires Inv-loop μ-loop
 goes-on-requires c κs = search needs
 
-sv-clock-check-requires : tie.Need-sv-clock-check-requires Inv-loop μ-loop
-sv-clock-check-requires c κs = search needs
+clock-check-if-requires : tie.Need-clock-check-if-requires Inv-loop μ-loop
+clock-check-if-requires c κs = search needs
 
 check-sv-seq-in-requires : tie.Need-check-sv-seq-in-requires Inv-loop μ-loop
 check-sv-seq-in-requires c κs = search needs
@@ -221,9 +221,9 @@ hijacked :
       table = cbTableOf (o .«cb_ref» .octets) (o .«cb_ref» .lens) (o .«is_goose») (o .«owner_client_id») (j .if1 .cb-bound) (j .if1 .cb-macs) (o .active);
       hijack = j .if1 .hijack;
     }
-    ≡ dataSetUsed (j .before .before .permits .result)
+    ≡ cbCheckedIf (j .before .before .permits .result)
     (cbTableOf (o .«cb_ref» .octets) (o .«cb_ref» .lens) (o .«is_goose») (o .«owner_client_id») (a .loop .cb-bound) (a .loop .cb-macs) (o .active))
-    (nameOf (f .«dataset_ref») (f .«dataset_ref_len»)) (j .before .before .before .before .before .before .before .before .before .before .before .before .before .address-of .result)
+    (nameOf (f .«dataset_ref») (f .«dataset_ref_len»)) false (j .before .before .before .before .before .before .before .before .before .before .before .before .before .address-of .result)
 hijacked j =
     let a = j .before .before .before .before .before .before .before .before .before .before .before .before .before .before .before .before .before .before in
     let o = monitor a .«cb_reservations» in
@@ -240,7 +240,7 @@ hijacked j =
       table = cbTableOf (o .«cb_ref» .octets) (o .«cb_ref» .lens) (o .«is_goose») (o .«owner_client_id») (w .1 i) (w .2 i) (o .active);
       hijack = w .3 i;
     })
-    ∙ data-set-empty _ (f .«dataset_ref») (f .«dataset_ref_len») (j .before .before .before .before .before .before .before .before .before .before .before .before .before .address-of .result) (j .before .before .permits .result) (omega (arith, w .0 .left)))
+    ∙ nameless-not-used _ (f .«dataset_ref») (f .«dataset_ref_len») false (j .before .before .before .before .before .before .before .before .before .before .before .before .before .address-of .result) (j .before .before .permits .result) (omega (arith, w .0 .left)))
     (j .if1 .came)
 
 -- what the checks of the body found: the verdict on it, and the counters after it
@@ -279,7 +279,7 @@ loop-again c =
     (kept-octets (f .svid) (f .«svid_len») (size x) (v .valid-len .ensures) (k .padded .ensures))
     (kept-len (f .svid) (f .«svid_len») (size x) (v .valid-len .ensures) (k .padded .ensures))
     (v .before .address-of .ensures) (r .sv-rule .ensures) (n .permits .ensures) (hijacked h)
-    (g .goes-on .ensures) (t .sv-clock-check .ensures) (q .check-sv-seq-in .ensures)
+    (g .goes-on .ensures) (t .clock-check-if .ensures) (q .check-sv-seq-in .ensures)
     (z .before .before .before .before .first-alert .ensures) (z .before .before .before .count-alert .ensures) (z .before .before .is-replay .ensures)
     (z .before .rate-reached .ensures) (z .rate-alert .ensures) in
     let before = whole m (l .cb-bound) (l .cb-macs) (l .clock-macs) (l .clock-seconds) (l .clock-fractions) (l .clock-active) (l .clock-used) (l .clock-tick) (l .svids) (l .svid-lens) (l .counts) (l .active) (l .used) (l .tick) (l .total) (l .counters) in (
@@ -318,9 +318,9 @@ inspect-sv-batch-spec =
     padded-requires
     sv-rule-requires
     permits-requires
-    sv-hijack-check-requires
+    hijack-check-if-requires
     goes-on-requires
-    sv-clock-check-requires
+    clock-check-if-requires
     check-sv-seq-in-requires
     first-alert-requires
     count-alert-requires

@@ -2,9 +2,13 @@
 use Prim.Native.Nat.{_<_}
 use native.Mathlib.Omega.{arith}
 use borrow.Author.Needs.{needs}
-use Rattle.inspection.proofs.GooseSeqLaws.{plan-below, plan-carried-out}
+use borrow.Author.Tests.{not-true, not-false}
+use Rattle.inspection.proofs.GooseSeqLaws.{plan-below, plan-carried-out, stream-not-reached, stream-reached}
 use Rattle.inspection.proofs.goose_seq.check_goose_seq_in.Statement.{statement}
 use Rattle.inspection.proofs.goose_seq.check_goose_seq_in.Tie as tie
+
+returns : tie.Need-returns
+returns c = stream-not-reached _ _ _ (c .before .args .reached) (not-true (c .before .args .reached) (c .if1 .taken))
 
 goose-plan-requires : tie.Need-goose-plan-requires
 goose-plan-requires c κs = search needs
@@ -45,13 +49,18 @@ element-write-last-seen-us c = slot-below c
 use-slot-requires : tie.Need-use-slot-requires
 use-slot-requires c κs = search needs
 
-returns : tie.Need-returns
-returns c = plan-carried-out _ _ _ (c .before .before .before .before .goose-plan .ensures) (c .use-slot .ensures)
+returns-2 : tie.Need-returns-2
+returns-2 c =
+    let p = c .before .before .before .before in
+    let b = p .before .before .before .before .before .before .before .before .before in
+    let reached = b .before .args .reached in
+    stream-reached _ _ _ reached (not-false reached (b .if1 .left)) (plan-carried-out _ _ _ (p .goose-plan .ensures) (c .use-slot .ensures))
 
 pub check-goose-seq-in-spec : {M : Type 1} → statement M
 check-goose-seq-in-spec =
     tie.close
     (tie.spec
+    returns
     goose-plan-requires
     mul-src-macs
     element-write-src-macs
@@ -64,4 +73,4 @@ check-goose-seq-in-spec =
     mul-last-seen-us
     element-write-last-seen-us
     use-slot-requires
-    returns)
+    returns-2)

@@ -1,11 +1,10 @@
 -- `mms_checks` meets its contract.
-use mathlib.Core.Path.{_∙_}
 use borrow.Author.Needs.{needs}
 use Rattle.inspection.specs.declared.monitor.Iec61850Monitor.{Iec61850Monitor}
 use Rattle.inspection.specs.InspectMms.{withMmsParts}
 use Rattle.inspection.specs.Rate.{bucketTableOf}
 use Rattle.inspection.specs.Reservation.{cbTableOf}
-use Rattle.inspection.proofs.StageLaws.{mms-refused, mms-permitted}
+use Rattle.inspection.proofs.StageLaws.{mms-checked}
 use Rattle.inspection.proofs.inspect_mms.mms_checks.Statement.{statement}
 use Rattle.inspection.proofs.inspect_mms.mms_checks.Tie as tie
 
@@ -23,31 +22,41 @@ is-write-requires c κs = search needs
 mms-mask-requires : tie.Need-mms-mask-requires
 mms-mask-requires c κs = search needs
 
-enum-known-severity : tie.Need-enum-known-severity
-enum-known-severity c = search needs
+rate-given-requires : tie.Need-rate-given-requires
+rate-given-requires c κs = search needs
 
-refused-requires : tie.Need-refused-requires
-refused-requires c κs = search needs
+rate-check-if-requires : tie.Need-rate-check-if-requires
+rate-check-if-requires c κs = search needs
 
-enum-known-rate : tie.Need-enum-known-rate
-enum-known-rate c = search needs
+permits-requires : tie.Need-permits-requires
+permits-requires c κs = search needs
 
-mms-rate-requires : tie.Need-mms-rate-requires
-mms-rate-requires c κs = search needs
+goes-on-requires : tie.Need-goes-on-requires
+goes-on-requires c κs = search needs
+
+mms-control-if-requires : tie.Need-mms-control-if-requires
+mms-control-if-requires c κs = search needs
+
+mms-refusal-requires : tie.Need-mms-refusal-requires
+mms-refusal-requires c κs = search needs
+
+full-alert-requires : tie.Need-full-alert-requires
+full-alert-requires c κs = search needs
 
 returns : tie.Need-returns
 returns c m =
-    let n = c .before .before .before .before in
-    let s = n .before .before in
-    mms-refused (whole s m) (s .args .f) (n .before .is-write .ensures) (n .mms-mask .ensures) (c .before .before .severity .given .1) (c .refused .ensures)
-
-returns-2 : tie.Need-returns-2
-returns-2 c m =
-    let r = c .before .before .before .before .before .before .before .before .before .before .before .before .before .before .before .before in
-    let n = r .before .before in
-    let s = n .before .before in
-    c .mms-rate .ensures (whole s m)
-    ∙ mms-permitted (whole s m) (s .args .f) (n .before .is-write .ensures) (n .mms-mask .ensures) (r .rate .given .1)
+    let e = c .before in
+    let k = e .before in
+    let g = k .before .before .before .before .before .before .before .before in
+    let p = g .before in
+    let b = p .before in
+    let r = b .before .before .before .before .before .before .before .before in
+    let n = r .before in
+    let w = n .before in
+    let s = w .before in
+    mms-checked (whole s m) (s .args .f) (e .mms-refusal .result) (c .full-alert .result)
+    (w .is-write .ensures) (n .mms-mask .ensures) (r .rate-given .ensures) (b .rate-check-if .ensures) (p .permits .ensures) (g .goes-on .ensures)
+    (k .mms-control-if .ensures) (e .mms-refusal .ensures) (c .full-alert .ensures)
 
 pub mms-checks-spec : {M : Type 1} → statement M
 mms-checks-spec =
@@ -55,9 +64,11 @@ mms-checks-spec =
     (tie.spec
     is-write-requires
     mms-mask-requires
-    enum-known-severity
-    refused-requires
-    enum-known-rate
-    mms-rate-requires
-    returns
-    returns-2)
+    rate-given-requires
+    rate-check-if-requires
+    permits-requires
+    goes-on-requires
+    mms-control-if-requires
+    mms-refusal-requires
+    full-alert-requires
+    returns)

@@ -40,14 +40,14 @@ sv-rule-requires c κs = search needs
 permits-requires : tie.Need-permits-requires
 permits-requires c κs = search needs
 
-sv-hijack-check-requires : tie.Need-sv-hijack-check-requires
-sv-hijack-check-requires c κs = search needs
+hijack-check-if-requires : tie.Need-hijack-check-if-requires
+hijack-check-if-requires c κs = search needs
 
 goes-on-requires : tie.Need-goes-on-requires
 goes-on-requires c κs = search needs
 
-sv-clock-check-requires : tie.Need-sv-clock-check-requires
-sv-clock-check-requires c κs = search needs
+clock-check-if-requires : tie.Need-clock-check-if-requires
+clock-check-if-requires c κs = search needs
 
 check-sv-seq-in-requires : tie.Need-check-sv-seq-in-requires
 check-sv-seq-in-requires c κs = search needs
@@ -83,8 +83,8 @@ returns c m =
     (c .before .before .before .before .first-alert .result) (c .before .before .before .count-alert .result) (c .rate-alert .result)
     (kept-octets (f .svid) (f .«svid_len») (size s) (l .valid-len .ensures) (k .padded .ensures))
     (kept-len (f .svid) (f .«svid_len») (size s) (l .valid-len .ensures) (k .padded .ensures))
-    (l .before .address-of .ensures) (r .sv-rule .ensures) (n .permits .ensures) (h .sv-hijack-check .ensures (m .«cb_reservations» .«owner_client_id»))
-    (g .goes-on .ensures) (t .sv-clock-check .ensures) (q .check-sv-seq-in .ensures)
+    (l .before .address-of .ensures) (r .sv-rule .ensures) (n .permits .ensures) (h .hijack-check-if .ensures (m .«cb_reservations» .«owner_client_id»))
+    (g .goes-on .ensures) (t .clock-check-if .ensures) (q .check-sv-seq-in .ensures)
     (c .before .before .before .before .first-alert .ensures) (c .before .before .before .count-alert .ensures) (c .before .before .is-replay .ensures)
     (c .before .rate-reached .ensures) (c .rate-alert .ensures)
 
@@ -97,9 +97,9 @@ sv-checks-spec =
     padded-requires
     sv-rule-requires
     permits-requires
-    sv-hijack-check-requires
+    hijack-check-if-requires
     goes-on-requires
-    sv-clock-check-requires
+    clock-check-if-requires
     check-sv-seq-in-requires
     first-alert-requires
     count-alert-requires

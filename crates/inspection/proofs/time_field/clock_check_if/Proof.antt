@@ -1,9 +1,9 @@
--- `sv_clock_check` meets its contract.
+-- `clock_check_if` meets its contract.
 use borrow.Author.Needs.{needs}
 use borrow.Author.Tests.{not-true, not-false}
 use Rattle.inspection.proofs.TimeFieldLaws.{without-clock, clock-not-reached, clock-reached}
-use Rattle.inspection.proofs.inspect_sv.sv_clock_check.Statement.{statement}
-use Rattle.inspection.proofs.inspect_sv.sv_clock_check.Tie as tie
+use Rattle.inspection.proofs.time_field.clock_check_if.Statement.{statement}
+use Rattle.inspection.proofs.time_field.clock_check_if.Tie as tie
 
 returns : tie.Need-returns
 returns c = clock-not-reached _ _ _ _ (c .before .args .reached) (not-true (c .before .args .reached) (c .if1 .taken))
@@ -27,7 +27,7 @@ returns-3 c =
     let reached = b .before .args .reached in
     clock-reached _ _ _ _ reached (not-false reached (b .if1 .left)) (c .check-time-field-in .ensures)
 
-pub sv-clock-check-spec : {M : Type 1} → statement M
-sv-clock-check-spec =
+pub clock-check-if-spec : {M : Type 1} → statement M
+clock-check-if-spec =
     tie.close
     (tie.spec returns has-clock-requires returns-2 check-time-field-in-requires returns-3)

@@ -1,9 +1,9 @@
 -- `first_alert` meets its contract.
 use mathlib.Core.Path.{sym, _∙_}
 use borrow.Author.Needs.{needs}
-use Rattle.inspection.specs.InspectSv.{firstFindings}
-use Rattle.inspection.proofs.inspect_sv.first_alert.Statement.{statement}
-use Rattle.inspection.proofs.inspect_sv.first_alert.Tie as tie
+use Rattle.inspection.specs.Report.{firstFindings}
+use Rattle.inspection.proofs.report.first_alert.Statement.{statement}
+use Rattle.inspection.proofs.report.first_alert.Tie as tie
 
 enum-known-rule : tie.Need-enum-known-rule
 enum-known-rule c = search needs
