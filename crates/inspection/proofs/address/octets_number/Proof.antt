@@ -17,23 +17,29 @@ add-high c = search needs
 mul-middle : tie.Need-mul-middle
 mul-middle c = search needs
 
-mul-middle-2 : tie.Need-mul-middle-2
-mul-middle-2 c = search needs
-
 add-middle : tie.Need-add-middle
 add-middle c = search needs
+
+mul-low : tie.Need-mul-low
+mul-low c = search needs
+
+add-low : tie.Need-add-low
+add-low c = search needs
 
 add-result : tie.Need-add-result
 add-result c = search needs
 
+cast-result : tie.Need-cast-result
+cast-result c = search needs
+
 mul-result : tie.Need-mul-result
 mul-result c = search needs
 
+cast-result-2 : tie.Need-cast-result-2
+cast-result-2 c = search needs
+
 add-result-2 : tie.Need-add-result-2
 add-result-2 c = search needs
-
-add-result-3 : tie.Need-add-result-3
-add-result-3 c = search needs
 
 returns : tie.Need-returns
 unfolding addressOf
@@ -47,10 +53,12 @@ octets-number-spec =
     mul-high-2
     add-high
     mul-middle
-    mul-middle-2
     add-middle
+    mul-low
+    add-low
     add-result
+    cast-result
     mul-result
+    cast-result-2
     add-result-2
-    add-result-3
     returns)

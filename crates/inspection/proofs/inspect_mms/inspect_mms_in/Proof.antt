@@ -21,26 +21,21 @@ whole s m total =
 mms-checks-requires : tie.Need-mms-checks-requires
 mms-checks-requires c κs = search needs
 
-push-alerts-requires : tie.Need-push-alerts-requires
-push-alerts-requires c κs = search needs
-
 saturating-increment-requires : tie.Need-saturating-increment-requires
 saturating-increment-requires c κs = search needs
 
+push-alerts-in-requires : tie.Need-push-alerts-in-requires
+push-alerts-in-requires c κs = search needs
+
 returns : tie.Need-returns
 returns c m =
-    let i = c .before in
-    let p = i .before .before .before in
-    let k = p .before .before .before in
+    let i = c .before .before .before in
+    let k = i .before .before in
     let s = k .before .before .before .before .before .before .before .before .before .before .before .before .before .before .before in
     mms-inspected (whole s m (s .args .total .now)) (s .args .frame) _ _ (i .saturating-increment .ensures)
-    (k .mms-checks .ensures (whole s m (i .saturating-increment .result))) (p .push-alerts .ensures)
+    (k .mms-checks .ensures (whole s m (i .saturating-increment .result))) (c .push-alerts-in .ensures)
 
 pub inspect-mms-in-spec : {M : Type 1} → statement M
 inspect-mms-in-spec =
     tie.close
-    (tie.spec
-    mms-checks-requires
-    push-alerts-requires
-    saturating-increment-requires
-    returns)
+    (tie.spec mms-checks-requires saturating-increment-requires push-alerts-in-requires returns)

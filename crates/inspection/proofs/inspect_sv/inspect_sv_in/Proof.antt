@@ -24,23 +24,29 @@ whole s m total =
 sv-checks-requires : tie.Need-sv-checks-requires
 sv-checks-requires c κs = search needs
 
-cast-push-alerts : tie.Need-cast-push-alerts
-cast-push-alerts c = search needs
-
-push-alerts-requires : tie.Need-push-alerts-requires
-push-alerts-requires c κs = search needs
-
 saturating-increment-requires : tie.Need-saturating-increment-requires
 saturating-increment-requires c κs = search needs
 
+cast-push-alerts-in : tie.Need-cast-push-alerts-in
+cast-push-alerts-in c = search needs
+
+push-alerts-in-requires : tie.Need-push-alerts-in-requires
+push-alerts-in-requires c κs = search needs
+
 returns : tie.Need-returns
 returns c m =
-    let i = c .before in
-    let p = i .before .before .before in
-    let k = p .before .before .before .before in
+    let i = c .before .before .before .before in
+    let k = i .before .before in
     let s = k .before .before .before .before .before .before .before .before .before .before .before .before .before .before .before in
     sv-inspected (whole s m (s .args .total .now)) (s .args .frame) _ _ (i .saturating-increment .ensures)
-    (k .sv-checks .ensures (whole s m (i .saturating-increment .result))) (p .push-alerts .ensures)
+    (k .sv-checks .ensures (whole s m (i .saturating-increment .result))) (c .push-alerts-in .ensures)
 
 pub inspect-sv-in-spec : {M : Type 1} → statement M
-inspect-sv-in-spec = tie.close (tie.spec sv-checks-requires cast-push-alerts push-alerts-requires saturating-increment-requires returns)
+inspect-sv-in-spec =
+    tie.close
+    (tie.spec
+    sv-checks-requires
+    saturating-increment-requires
+    cast-push-alerts-in
+    push-alerts-in-requires
+    returns)
