@@ -9,10 +9,12 @@ ghost use Rattle.inspection.specs.Address.{addressOf};
 fn octets_number(first: u8, second: u8, third: u8, fourth: u8, fifth: u8, sixth: u8) -> u64
     ensures { λ r. ⌜ r ≡ addressOf (first ∷ second ∷ third ∷ fourth ∷ fifth ∷ sixth ∷ []) ⌝ }
 {
-    let high = (first as u32) * 0x100_0000 + (second as u32) * 0x1_0000;
-    let middle = (third as u32) * 0x100 + (fourth as u32);
+    let high = (first as u32) * 0x100_0000
+        + (second as u32) * 0x1_0000
+        + (third as u32) * 0x100
+        + (fourth as u32);
     let low = (fifth as u32) * 0x100 + (sixth as u32);
-    ((high + middle) as u64) * 0x1_0000 + (low as u64)
+    (high as u64) * 0x1_0000 + (low as u64)
 }
 
 // The 48-bit number of an Ethernet address.

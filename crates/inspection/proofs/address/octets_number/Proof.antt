@@ -14,20 +14,20 @@ mul-high-2 c = search needs
 add-high : tie.Need-add-high
 add-high c = search needs
 
-mul-middle : tie.Need-mul-middle
-mul-middle c = search needs
+mul-high-3 : tie.Need-mul-high-3
+mul-high-3 c = search needs
 
-add-middle : tie.Need-add-middle
-add-middle c = search needs
+add-high-2 : tie.Need-add-high-2
+add-high-2 c = search needs
+
+add-high-3 : tie.Need-add-high-3
+add-high-3 c = search needs
 
 mul-low : tie.Need-mul-low
 mul-low c = search needs
 
 add-low : tie.Need-add-low
 add-low c = search needs
-
-add-result : tie.Need-add-result
-add-result c = search needs
 
 cast-result : tie.Need-cast-result
 cast-result c = search needs
@@ -38,8 +38,8 @@ mul-result c = search needs
 cast-result-2 : tie.Need-cast-result-2
 cast-result-2 c = search needs
 
-add-result-2 : tie.Need-add-result-2
-add-result-2 c = search needs
+add-result : tie.Need-add-result
+add-result c = search needs
 
 returns : tie.Need-returns
 unfolding addressOf
@@ -52,13 +52,13 @@ octets-number-spec =
     mul-high
     mul-high-2
     add-high
-    mul-middle
-    add-middle
+    mul-high-3
+    add-high-2
+    add-high-3
     mul-low
     add-low
-    add-result
     cast-result
     mul-result
     cast-result-2
-    add-result-2
+    add-result
     returns)

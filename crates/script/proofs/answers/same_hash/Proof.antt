@@ -1,0 +1,47 @@
+-- `script::answers::same_hash` reads within the hashes and ends. The loop's invariant: it has read at most 32 octets of each. The
+-- measure is what is left of them. Assumes nothing.
+use Prim.Native.Nat.{_≤_, _-_}
+use borrow.Author.Needs.{needs}
+use Rattle.script.proofs.answers.same_hash.Statement.{statement}
+use Rattle.script.proofs.answers.same_hash.Tie as tie
+
+abbrev Inv-loop : tie.InvT-loop
+Inv-loop a b same₀ i₀ same i = i ≤ 32
+
+abbrev μ-loop : tie.MeasureT-loop
+μ-loop a b same₀ i₀ same i = 32 - i
+
+loop-holds : tie.Need-loop-holds Inv-loop μ-loop
+loop-holds c = search needs
+
+array-read-if1 : tie.Need-array-read-if1 Inv-loop μ-loop
+array-read-if1 c = search needs
+
+array-read-if1-2 : tie.Need-array-read-if1-2 Inv-loop μ-loop
+array-read-if1-2 c = search needs
+
+add-i : tie.Need-add-i Inv-loop μ-loop
+add-i c = search needs
+
+loop-less : tie.Need-loop-less Inv-loop μ-loop
+loop-less c = search needs
+
+loop-again : tie.Need-loop-again Inv-loop μ-loop
+loop-again c = search needs
+
+returns : tie.Need-returns Inv-loop μ-loop
+returns c = search needs
+
+pub same-hash-spec : {M : Type 1} → statement M
+same-hash-spec =
+    tie.close
+    (tie.spec
+    Inv-loop
+    μ-loop
+    loop-holds
+    array-read-if1
+    array-read-if1-2
+    add-i
+    loop-less
+    loop-again
+    returns)

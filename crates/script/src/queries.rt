@@ -1,0 +1,106 @@
+// The calls of a script that leave the monitor: what they answer, and the totals.
+ghost use Prim.Native.Nat.{_≤_};
+ghost use lib.ListN.{length};
+ghost use Rattle.io.specs.Counts.{Counts};
+use crate::answers::MonitorReadings;
+use crate::answers::put_bucket;
+use crate::answers::put_parsed;
+use crate::answers::put_readings;
+use crate::answers::put_service;
+use crate::arguments::rest_at;
+use crate::arguments::u16_at;
+use crate::arguments::u32_at;
+use crate::arguments::u64_at;
+use crate::frames::schedule;
+use crate::text::put_flag;
+use crate::text::put_number;
+use crate::text::put_octets;
+use records::bucket::RateBucket;
+use records::schedule::RetxSchedule;
+use records::service::MmsServiceType;
+use wire::number::octet_at;
+use wire::sv::parse_sv;
+
+// Call 17: a raw number.
+fn put_service_call(call: &[u8], line: &mut [u8], at: usize) -> usize
+    requires { ⌜ at ≤ length (now line) ⌝ }
+    ensures { λ r. ⌜ Counts r (now (line .exit)) ⌝ }
+{
+    put_service(line, at, MmsServiceType::from_u8(octet_at(call, 1)))
+}
+
+// Puts a word and what a schedule answers to call 18: the interval of the sqNum, and whether the observed one is within tolerance.
+fn put_interval(
+    line: &mut [u8],
+    at: usize,
+    word: &[u8],
+    schedule: RetxSchedule,
+    call: &[u8],
+) -> usize
+    requires { ⌜ at ≤ length (now line) ⌝ }
+    ensures { λ r. ⌜ Counts r (now (line .exit)) ⌝ }
+{
+    let interval = schedule.expected_interval_us(u32_at(call, 10));
+    let within = schedule.within_tolerance(u32_at(call, 14), u32_at(call, 18));
+    let end = put_number(line, at, word, interval as u64);
+    put_flag(line, end, b" ", within)
+}
+
+// Call 18: a schedule, a sqNum, and an observed and an expected interval. The schedule answers, and then that of a new monitor.
+fn put_intervals(call: &[u8], line: &mut [u8], at: usize) -> usize
+    requires { ⌜ at ≤ length (now line) ⌝ }
+    ensures { λ r. ⌜ Counts r (now (line .exit)) ⌝ }
+{
+    let given = schedule(call);
+    let usual = RetxSchedule::default_8_1();
+    let middle = put_interval(line, at, b"interval ", given, call);
+    put_interval(line, middle, b" default ", usual, call)
+}
+
+// Call 19: time, and the octets of the frame.
+fn put_parsing(call: &[u8], line: &mut [u8], at: usize) -> usize
+    requires { ⌜ at ≤ length (now line) ⌝ }
+    ensures { λ r. ⌜ Counts r (now (line .exit)) ⌝ }
+{
+    let parsed = parse_sv(rest_at(call, 9), u64_at(call, 1));
+    let answer = parsed.answer;
+    let frame = parsed.frame;
+    put_parsed(line, at, answer, frame)
+}
+
+// Call 20: a bucket's tokens, capacity and last refill, and a time.
+fn put_bucket_call(call: &[u8], line: &mut [u8], at: usize) -> usize
+    requires { ⌜ at ≤ length (now line) ⌝ }
+    ensures { λ r. ⌜ Counts r (now (line .exit)) ⌝ }
+{
+    let bucket = RateBucket {
+        tokens: u16_at(call, 1),
+        capacity: u16_at(call, 3),
+        last_refill_us: u64_at(call, 5),
+    };
+    let called = bucket.next_call(u64_at(call, 13));
+    put_bucket(line, at, called)
+}
+
+// Puts what one of the calls 3 and 17 to 20 answers. They leave the monitor.
+fn put_answer(call: &[u8], line: &mut [u8], at: usize) -> usize
+    requires { ⌜ at ≤ length (now line) ⌝ }
+    ensures { λ r. ⌜ Counts r (now (line .exit)) ⌝ }
+{
+    match octet_at(call, 0) {
+        17 => put_service_call(call, line, at),
+        18 => put_intervals(call, line, at),
+        19 => put_parsing(call, line, at),
+        20 => put_bucket_call(call, line, at),
+        _ => put_octets(line, at, b"done"),
+    }
+}
+
+// Puts the line of a call that leaves the monitor.
+pub fn put_query(read: MonitorReadings, call: &[u8], line: &mut [u8], at: usize) -> usize
+    requires { ⌜ at ≤ length (now line) ⌝ }
+    ensures { λ r. ⌜ Counts r (now (line .exit)) ⌝ }
+{
+    let end = put_answer(call, line, at);
+    put_readings(line, end, read)
+}
