@@ -58,7 +58,7 @@ abbrev start : tie.At-loop Inv-loop μ-loop → tie.Start Inv-loop μ-loop
 start l = batch l .before .before .before
 
 abbrev monitor : tie.At-loop Inv-loop μ-loop → Iec61850Monitor
-monitor l = start l .args .m
+monitor l = start l .args .t1
 
 abbrev octets : tie.At-loop Inv-loop μ-loop → List ℕ
 octets l = start l .args .frames .now
@@ -94,7 +94,7 @@ batch-count-requires c κs = search needs
 loop-holds : tie.Need-loop-holds Inv-loop μ-loop
 loop-holds c =
     let s = c .before .before .before .before .before .before .before .before .before .before .before .before .before .before .before .before .before .before in
-    (omega arith, none-after (s .args .m) (s .args .frames .now), no-verdicts (s .args .m) (s .args .frames .now) (s .args .verdicts .now))
+    (omega arith, none-after (s .args .t1) (s .args .frames .now), no-verdicts (s .args .t1) (s .args .frames .now) (s .args .verdicts .now))
 
 mul-sv-frame-of : tie.Need-mul-sv-frame-of Inv-loop μ-loop
 mul-sv-frame-of c = omega (arith, record-ends c)
