@@ -64,13 +64,14 @@ fn svid(stream: usize, len: usize) -> [u8; 64] {
     octets
 }
 
-fn sv_row(rounds: usize, frames: usize, streams: usize, len: usize) {
+// SV frames whose counts go on, or stand still: then all but the first of each stream are refused.
+fn sv_row(rounds: usize, frames: usize, streams: usize, len: usize, going: bool) {
     let ours: Vec<mokyndu::SvFrame> = (0..frames)
         .map(|k| mokyndu::SvFrame {
             src_mac: [2, 0, 0, 0, 0, (k % streams) as u8],
             svid_len: len as u8,
             svid: svid(k % streams, len),
-            smp_cnt: (k / streams) as u16,
+            smp_cnt: if going { (k / streams) as u16 } else { 7 },
             smp_rate: 4000,
             dataset_ref_len: 0,
             dataset_ref: [0; 64],
@@ -121,7 +122,8 @@ fn sv_row(rounds: usize, frames: usize, streams: usize, len: usize) {
             allowed
         },
     ]);
-    row(&format!("SV, {streams} streams, svID of {len} octets"), true, &ways);
+    let verdict = if going { "" } else { ", refused" };
+    row(&format!("SV, {streams} streams, svID of {len} octets{verdict}"), true, &ways);
 }
 
 fn goose_row(rounds: usize, frames: usize, streams: usize) {
@@ -290,9 +292,10 @@ fn main() {
     println!("|---|---|---|---|---|---|---|---|");
     for len in [4, 30] {
         for streams in [1, 8, 16, 17] {
-            sv_row(rounds, frames, streams, len);
+            sv_row(rounds, frames, streams, len, true);
         }
     }
+    sv_row(rounds, frames, 8, 4, false);
     goose_row(rounds, frames, 16);
     goose_row(rounds, frames, 17);
     mms_row(rounds, frames);
