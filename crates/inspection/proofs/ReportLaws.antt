@@ -43,9 +43,9 @@ pub grows-one : (x : ℕ) → Grows saturating x 1 (saturated x)
 grows-one x n h = rw h (omega arith)
 
 -- so many alerts, each in its slot with the next number, and counted
-record Pushes (p q : Pushed) (k : ℕ) : Type 0 where
-  size : length (q .result .alerts) ≡ 4
-  count : q .result .«alert_count» ≡ p .result .«alert_count» + k
+pub record Pushes (p q : Pushed) (k : ℕ) : Type 0 where
+  pub size : length (q .result .alerts) ≡ 4
+  pub count : q .result .«alert_count» ≡ p .result .«alert_count» + k
   whole : q .result .«alerts_truncated» ≡ p .result .«alerts_truncated»
   total : Grows saturating (p .counters .«total_alerts») k (q .counters .«total_alerts»)
   next : Grows wrapping (p .counters .«next_alert_id») k (q .counters .«next_alert_id»)
@@ -53,7 +53,7 @@ record Pushes (p q : Pushed) (k : ℕ) : Type 0 where
       → numbersIn (alertsIn (q .result)) ≡ numbersIn (alertsIn (p .result)) ++ numbersFrom n k
 
 module _ (source sourceNumber time : ℕ) where
-  pushes-one :
+  pub pushes-one :
       (p : Pushed) (a : Finding)
       → length (p .result .alerts) ≡ 4 → p .result .«alert_count» < 4 → Pushes p (reportedNext source sourceNumber time p a) 1
   unfolding pushed withAlert alertOf counted

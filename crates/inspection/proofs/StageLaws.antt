@@ -1,16 +1,17 @@
 -- Laws of an inspection: the alerts of its checks reported, what its rules say, and its checks in a row as the chain of stages of its definition.
-use Prim.Native.Nat.{ℕ, _≤_}
+use Prim.Native.Nat.{ℕ, zero, suc, _+_, _*_, _≤_, _<_}
 use mathlib.Core.Bool.{Bool, true, false, _&&_, _||_, cond, not, false≢true}
 use mathlib.Core.List.{List, [], _∷_, _++_, append-nil, foldl, foldl-append}
 use mathlib.Core.Path.{_≡_, refl, sym, ap, _∙_}
 use native.Mathlib.Omega.{arith}
-use borrow.Author.Tests.{lt-ltb, eq-eqb, ne-eqb}
+use borrow.Author.Tests.{lt-ltb, le-ltb, eq-eqb, ne-eqb}
 use lib.Dec.{eqb, ltb}
-use lib.ListN.{length, List·getD-eq-default}
+use lib.ListN.{length, getD, set, length-append, List·getD-eq-default}
 use Rattle.records.specs.declared.alert.AlertCode.{AlertCode}
 use Rattle.records.specs.declared.alert.AlertCode.the-variants.{PolicyViolation, SvRateAnomaly, CbHijack}
 use Rattle.records.specs.declared.alert.AlertSeverity.{AlertSeverity}
 use Rattle.records.specs.declared.alert.AlertSeverity.the-variants.{Medium, High}
+use Rattle.records.specs.declared.alert.CodedAlert.{CodedAlert}
 use Rattle.records.specs.declared.error.VsError.{VsError}
 use Rattle.records.specs.declared.frame.GooseFrame.{GooseFrame}
 use Rattle.records.specs.declared.frame.MmsFrame.{MmsFrame}
@@ -20,11 +21,11 @@ use Rattle.records.specs.declared.result.InspectResult.{InspectResult}
 use Rattle.records.specs.declared.result.Pushed.{Pushed}
 use Rattle.records.specs.declared.search.Found.{Found}
 use Rattle.records.specs.declared.search.Found.the-variants.{At}
-use Rattle.records.specs.Alert.{sourceMms, sourceGoose, sourceSv, noAlert, alertOf}
-use Rattle.records.specs.Counter.{saturated}
+use Rattle.records.specs.Alert.{severityNumber, denies, codeNumber, sourceMms, sourceGoose, sourceSv, noAlert, alertOf}
+use Rattle.records.specs.Counter.{saturated, wrapped}
 use Rattle.records.specs.Hash.{fnv1a}
 use Rattle.records.specs.Name.{nameOf, padded}
-use Rattle.records.specs.Result.{cleanResult, pushed}
+use Rattle.records.specs.Result.{cleanResult, allowedWith, counted, withAlert, pushed}
 use Rattle.records.specs.Search.{isFound}
 use Rattle.records.specs.Verdict.{verdictOf}
 use Rattle.records.specs.Service.{serviceNumber, isWrite}
@@ -62,12 +63,13 @@ use Rattle.inspection.specs.InspectMms.{domainName, fullFindings, mmsRes
 use Rattle.inspection.specs.InspectSv.{svPair, rateFindings, countFindings, svTimeField, svRuleCheck, inspectSv, rawInspected, inspectRawSv, svBound, svReservation, svBinding, rateReached}
 use Rattle.inspection.specs.Monitor.{mmsTotalInspected, gooseTotalInspected, svTotalInspected, withTotals, countedMms, countedGoose, countedSv, withAlerts, withReservations, withRates, withClocks, withGooseStreams, withSvStreams}
 use Rattle.inspection.specs.Rate.{rateChecked, rateCheckedIf}
-use Rattle.inspection.specs.Report.{Finding, Checked, refusal, notice, clockFindings, firstFindings, ended, permitted, permits, rateGiven, withAllowed, reportedNext, reported, findingsOf, alertsOf, isNothing, noneFound, notedOf}
+use Rattle.inspection.specs.Report.{Finding, Checked, refusal, notice, clockFindings, firstFindings, ended, permitted, permits, rateGiven, withAllowed, reportedNext, reported, findingsOf, alertsOf, isNothing, noneFound, notedOf, allowedOctet, alertNoted}
 use Rattle.inspection.specs.Reservation.{reserved, released, cbCheckedIf}
 use Rattle.inspection.specs.SvPublisher.{lastFitting, svPublisher}
 use Rattle.inspection.specs.SvSeq.{svKey, isReplay, svChecked, svKeptCheckedIf}
 use Rattle.inspection.specs.TimeField.{timeCheckedIf}
 use Rattle.inspection.proofs.GooseSeqLaws.{withoutAges, retx-columns}
+use Rattle.inspection.proofs.ReportLaws.{pushes-one}
 use Rattle.inspection.proofs.SvSeqLaws.{kept-checked}
 
 -- ---- report: alerts added one by one, and the counters put back
@@ -156,10 +158,148 @@ nothing-noted source number time counters a e =
     ∙ ap (λ (l : List Finding). notedOf (foldl (reportedNext source number time) (record { result = cleanResult source; counters = counters }) l))
     (sym (none-found a e))
 
--- the verdict of a result that reports alerts
-pub alerts-noted :
-    {p p′ : Pushed} {verdict : List ℕ} → p ≡ p′ → verdict ≡ verdictOf (p .result) → record { verdict = verdict; counters = p .counters } ≡ notedOf p′
-alerts-noted {p} e w = (λ i. record { verdict = w i; counters = p .counters }) ∙ ap notedOf e
+-- a verdict with one more alert, as the code puts its octets
+pub alert-put :
+    (n : Noted) (f : Finding) {octet code severity next total : ℕ}
+    → getD (n .verdict) 1 0 < 3
+    → octet ≡ allowedOctet (getD (n .verdict) 0 0) (f .severity) (f .refuses)
+    → code ≡ codeNumber (f .code)
+    → severity ≡ severityNumber (f .severity)
+    → next ≡ wrapped (n .counters .«next_alert_id»)
+    → total ≡ saturated (n .counters .«total_alerts»)
+    → (let count = getD (n .verdict) 1 0 in
+    record {
+      verdict = set (set (set (set (n .verdict) 0 octet) 1 (count + 1)) (2 + 2 * count) code) (2 + 2 * count + 1) severity;
+      counters = record { «next_alert_id» = next; «total_alerts» = total };
+    })
+    ≡ alertNoted n f
+unfolding alertNoted counted
+alert-put n f h o c s x t =
+    let count = getD (n .verdict) 1 0 in
+    (λ i. record {
+      verdict = set (set (set (set (n .verdict) 0 (o i)) 1 (count + 1)) (2 + 2 * count) (c i)) (2 + 2 * count + 1) (s i);
+      counters = record { «next_alert_id» = x i; «total_alerts» = t i };
+    })
+    ∙ sym (cond-yes _ _ (lt-ltb _ _ h))
+
+-- a verdict with three alerts is left
+pub alert-left : (n : Noted) (f : Finding) → 3 ≤ getD (n .verdict) 1 0 → n ≡ alertNoted n f
+unfolding alertNoted
+alert-left n f h = sym (cond-no _ _ (le-ltb _ _ h))
+
+-- the octet after an alert is that of the flag after it
+flag-octet :
+    (allowed refuses denied : Bool)
+    → _≡_ {A = ℕ} (cond (refuses || denied) 0 (cond allowed 1 0)) (cond ((allowed && not refuses) && not denied) 1 0)
+flag-octet true true denied = refl
+flag-octet true false true = refl
+flag-octet true false false = refl
+flag-octet false true denied = refl
+flag-octet false false true = refl
+flag-octet false false false = refl
+
+-- what holds of every four holds of a list of length 4
+of-four : {A : Type 0} (P : List A → Type 0) → ((x y z w : A) → P (x ∷ y ∷ z ∷ w ∷ [])) → (l : List A) → length l ≡ 4 → P l
+of-four P h [] e = absurd (omega (arith, e))
+of-four P h (x ∷ []) e = absurd (omega (arith, e))
+of-four P h (x ∷ y ∷ []) e = absurd (omega (arith, e))
+of-four P h (x ∷ y ∷ z ∷ []) e = absurd (omega (arith, e))
+of-four P h (x ∷ y ∷ z ∷ w ∷ []) e = h x y z w
+of-four P h (x ∷ y ∷ z ∷ w ∷ v ∷ l) e = absurd (omega (arith, e))
+
+-- a check's answer has one alert at most, three have three
+one-at-most : (a : CheckAlert) → length (findingsOf a) ≤ 1
+one-at-most Nothing = omega arith
+one-at-most (Refusal severity code) = omega arith
+one-at-most (Notice severity code) = omega arith
+
+at-most-three : (a : CheckAlerts) → length (alertsOf a) ≤ 3
+at-most-three a =
+    let x = one-at-most (a .first) in
+    let y = one-at-most (a .second) in
+    let z = one-at-most (a .third) in
+    simp length-append (omega (arith, x, y, z))
+
+module _ (source number time : ℕ) where
+  -- an alert noted in each of the three places
+  module _ (allowed truncated : Bool) (kind : ℕ) (counters : AlertCounters) where
+    abbrev with-slots : ℕ → List CodedAlert → Pushed
+    with-slots count alerts = record {
+      result = record { allowed = allowed; «alert_count» = count; «source_type» = kind; alerts = alerts; «alerts_truncated» = truncated };
+      counters = counters;
+    }
+
+    noted-at :
+        (f : Finding) (count : ℕ) (x y z w : CodedAlert) → count ≤ 2
+        → alertNoted (notedOf (with-slots count (x ∷ y ∷ z ∷ w ∷ []))) f ≡ notedOf (reportedNext source number time (with-slots count (x ∷ y ∷ z ∷ w ∷ [])) f)
+    unfolding alertNoted verdictOf pushed withAlert allowedWith alertOf
+    noted-at f zero x y z w h =
+        λ i. record {
+          verdict =
+              flag-octet allowed (f .refuses) (denies (f .severity)) i
+              ∷ 1 ∷ codeNumber (f .code) ∷ severityNumber (f .severity)
+              ∷ codeNumber (y .code) ∷ severityNumber (y .alert .severity)
+              ∷ codeNumber (z .code) ∷ severityNumber (z .alert .severity) ∷ [];
+          counters = counted counters;
+        }
+    noted-at f (suc zero) x y z w h =
+        λ i. record {
+          verdict =
+              flag-octet allowed (f .refuses) (denies (f .severity)) i
+              ∷ 2 ∷ codeNumber (x .code) ∷ severityNumber (x .alert .severity)
+              ∷ codeNumber (f .code) ∷ severityNumber (f .severity)
+              ∷ codeNumber (z .code) ∷ severityNumber (z .alert .severity) ∷ [];
+          counters = counted counters;
+        }
+    noted-at f (suc (suc zero)) x y z w h =
+        λ i. record {
+          verdict =
+              flag-octet allowed (f .refuses) (denies (f .severity)) i
+              ∷ 3 ∷ codeNumber (x .code) ∷ severityNumber (x .alert .severity)
+              ∷ codeNumber (y .code) ∷ severityNumber (y .alert .severity)
+              ∷ codeNumber (f .code) ∷ severityNumber (f .severity) ∷ [];
+          counters = counted counters;
+        }
+    noted-at f (suc (suc (suc count))) x y z w h = absurd (omega (arith, h))
+
+  -- an alert noted in a verdict is noted in the verdict of the result with the alert
+  noted-next :
+      (p : Pushed) (f : Finding)
+      → p .result .«alert_count» ≤ 2 → length (p .result .alerts) ≡ 4 → alertNoted (notedOf p) f ≡ notedOf (reportedNext source number time p f)
+  noted-next p f h e =
+      let r = p .result in
+      let q : List CodedAlert → Pushed = with-slots (r .allowed) (r .«alerts_truncated») (r .«source_type») (p .counters) (r .«alert_count») in
+      of-four (λ (l : List CodedAlert). alertNoted (notedOf (q l)) f ≡ notedOf (reportedNext source number time (q l) f))
+      (λ x y z w. noted-at (r .allowed) (r .«alerts_truncated») (r .«source_type») (p .counters) f (r .«alert_count») x y z w h)
+      (r .alerts) e
+
+  -- up to three alerts noted one by one
+  noted-all :
+      (p : Pushed) (l : List Finding)
+      → p .result .«alert_count» + length l ≤ 3 → length (p .result .alerts) ≡ 4
+      → foldl alertNoted (notedOf p) l ≡ notedOf (foldl (reportedNext source number time) p l)
+  noted-all p [] h e = refl
+  noted-all p (f ∷ rest) h e =
+      let one = pushes-one source number time p f e (omega arith) in
+      ap (λ (n : Noted). foldl alertNoted n rest) (noted-next p f (omega arith) e)
+      ∙ noted-all (reportedNext source number time p f) rest (omega (arith, one .count)) (one .size)
+
+  -- the verdict and the counters with the alerts of the three answers, from those without an alert
+  pub three-noted :
+      (counters : AlertCounters) (a : CheckAlerts) {one two three : Noted}
+      → one ≡ foldl alertNoted (record { verdict = 1 ∷ 0 ∷ 0 ∷ 0 ∷ 0 ∷ 0 ∷ 0 ∷ 0 ∷ []; counters = counters }) (findingsOf (a .first))
+      → two ≡ foldl alertNoted one (findingsOf (a .second))
+      → three ≡ foldl alertNoted two (findingsOf (a .third))
+      → three ≡ notedOf (foldl (reportedNext source number time) (record { result = cleanResult source; counters = counters }) (alertsOf a))
+  unfolding cleanResult
+  three-noted counters a x y z =
+      let second = y ∙ ap (λ (n : Noted). foldl alertNoted n (findingsOf (a .second))) x in
+      let third = z ∙ ap (λ (n : Noted). foldl alertNoted n (findingsOf (a .third))) second in
+      let one-by-one = foldl-append _ _ (findingsOf (a .first)) _ ∙ foldl-append _ _ (findingsOf (a .second)) (findingsOf (a .third)) in
+      third
+      ∙ sym one-by-one
+      ∙ ap (λ (n : Noted). foldl alertNoted n (alertsOf a)) (clean-noted source counters)
+      ∙ noted-all (record { result = cleanResult source; counters = counters }) (alertsOf a) (omega (arith, at-most-three a)) refl
 
 -- the monitor and the verdict that report the alerts are those of the inspection
 module _

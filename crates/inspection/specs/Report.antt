@@ -1,14 +1,17 @@
 -- What the checks of an inspection find, and the result and counters that report it (01, "Alert and result"; "Refusals in checking order").
-use Prim.Native.Nat.{ℕ}
-use mathlib.Core.Bool.{Bool, true, false, _&&_, not, cond}
+use Prim.Native.Nat.{ℕ, _+_, _*_}
+use mathlib.Core.Bool.{Bool, true, false, _&&_, _||_, not, cond}
 use mathlib.Core.List.{List, [], _∷_, _++_, foldl}
+use lib.Dec.{ltb}
+use lib.ListN.{getD, set}
 use Rattle.records.specs.declared.alert.AlertSeverity.{AlertSeverity}
 use Rattle.records.specs.declared.alert.AlertSeverity.the-variants.{High}
 use Rattle.records.specs.declared.alert.AlertCode.{AlertCode}
 use Rattle.records.specs.declared.alert.AlertCode.the-variants.{CbHijack, TimeSyncSpoofing}
 use Rattle.records.specs.declared.result.InspectResult.{InspectResult}
 use Rattle.records.specs.declared.result.Pushed.{Pushed}
-use Rattle.records.specs.Result.{cleanResult, pushed}
+use Rattle.records.specs.Alert.{severityNumber, codeNumber, denies}
+use Rattle.records.specs.Result.{cleanResult, counted, pushed}
 use Rattle.records.specs.Verdict.{verdictOf}
 use Rattle.inspection.specs.declared.monitor.Iec61850Monitor.{Iec61850Monitor}
 use Rattle.inspection.specs.declared.monitor.Inspected.{Inspected}
@@ -118,3 +121,20 @@ noneFound first second third = isNothing first && (isNothing second && isNothing
 -- the verdict of a result, and the counters
 abbrev pub notedOf : Pushed → Noted
 notedOf p = record { verdict = verdictOf (p .result); counters = p .counters }
+
+-- the octet that says whether a frame is allowed, after an alert: 0 where it refuses the frame or is High or Critical
+abbrev pub allowedOctet : ℕ → AlertSeverity → Bool → ℕ
+allowedOctet octet severity refuses = cond (refuses || denies severity) 0 octet
+
+-- a verdict with one more alert in the next of its three places, as its result has it, and the counters after it. One with three alerts is left
+unfoldable pub alertNoted : Noted → Finding → Noted
+alertNoted n f = cond (ltb count 3) (record { verdict = with-alert; counters = counted (n .counters) }) n
+  where
+    count : ℕ
+    count = getD (n .verdict) 1 0
+
+    flagged : List ℕ
+    flagged = set (set (n .verdict) 0 (allowedOctet (getD (n .verdict) 0 0) (f .severity) (f .refuses))) 1 (count + 1)
+
+    with-alert : List ℕ
+    with-alert = set (set flagged (2 + 2 * count) (codeNumber (f .code))) (2 + 2 * count + 1) (severityNumber (f .severity))

@@ -4,14 +4,15 @@ ghost use mathlib.Core.Path.{_≡_};
 ghost use mathlib.Core.Bool.{_&&_, not};
 ghost use mathlib.Core.List.{foldl};
 ghost use Rattle.records.specs.Result.{cleanResult};
-ghost use Rattle.inspection.specs.Report.{clockFindings, findingsOf, alertsOf, firstFindings, isNothing, noneFound, notedOf, reportedNext};
+ghost use Rattle.inspection.specs.Report.{allowedOctet, alertNoted, clockFindings, findingsOf, alertsOf, firstFindings, isNothing, noneFound, notedOf, reportedNext};
 use crate::rules::RuleCheck;
 use records::alert::AlertCode;
 use records::alert::AlertSeverity;
+use records::counter::saturating_increment;
+use records::counter::wrapping_increment;
 use records::result::AlertCounters;
 use records::result::InspectResult;
 use records::result::Pushed;
-use records::verdict::verdict_of;
 
 // What a check found: nothing, an alert that refuses the frame, or one that alone does not.
 pub enum CheckAlert {
@@ -164,7 +165,55 @@ pub struct Noted {
     pub counters: AlertCounters,
 }
 
-// The verdict that reports what the checks found, and the counters after it. Without an alert no result is made.
+// The octet that says whether a frame is allowed, after an alert.
+fn allowed_octet(octet: u8, severity: AlertSeverity, refuses: bool) -> u8
+    ensures { λ r. ⌜ r ≡ allowedOctet octet severity refuses ⌝ }
+{
+    if refuses {
+        return 0;
+    }
+    if severity.denies() { 0 } else { octet }
+}
+
+// A verdict with one more alert in the next of its three places, and the counters after it. A verdict with three alerts is left: none of ours gets a
+// fourth.
+fn note_alert(n: Noted, severity: AlertSeverity, code: AlertCode, refuses: bool) -> Noted
+    ensures { λ r. ⌜ r ≡ alertNoted n (record { severity = severity; code = code; refuses = refuses }) ⌝ }
+{
+    let mut verdict = n.verdict;
+    let counters = n.counters;
+    let alert_count = verdict[1];
+    let count = alert_count as usize;
+    if count >= 3 {
+        return n;
+    }
+    let at = 2 + 2 * count;
+    verdict[0] = allowed_octet(verdict[0], severity, refuses);
+    verdict[1] = alert_count + 1;
+    verdict[at] = code.code();
+    verdict[at + 1] = severity.number();
+    Noted {
+        verdict: verdict,
+        counters: AlertCounters {
+            next_alert_id: wrapping_increment(counters.next_alert_id),
+            total_alerts: saturating_increment(counters.total_alerts),
+        },
+    }
+}
+
+// A verdict and the counters with one more alert, if a check found one.
+fn note_check(n: Noted, alert: CheckAlert) -> Noted
+    ensures { λ r. ⌜ r ≡ foldl alertNoted n (findingsOf alert) ⌝ }
+{
+    match alert {
+        CheckAlert::Nothing => n,
+        CheckAlert::Refusal(severity, code) => note_alert(n, severity, code, true),
+        CheckAlert::Notice(severity, code) => note_alert(n, severity, code, false),
+    }
+}
+
+// The verdict that reports what the checks found, and the counters after it. No result is made: a verdict does not hold the source, number and time
+// that the definition gives each alert, so they are not used.
 pub fn verdict_on(
     counters: AlertCounters,
     alerts: CheckAlerts,
@@ -177,17 +226,14 @@ pub fn verdict_on(
     let first = alerts.first;
     let second = alerts.second;
     let third = alerts.third;
+    let none = Noted {
+        verdict: CLEAN_VERDICT,
+        counters: counters,
+    };
     if none_found(first, second, third) {
-        return Noted {
-            verdict: CLEAN_VERDICT,
-            counters: counters,
-        };
+        return none;
     }
-    let pushed = push_alerts(counters, alerts, source_type, source_id, ts_us);
-    let result = pushed.result;
-    let counted = pushed.counters;
-    Noted {
-        verdict: verdict_of(result),
-        counters: counted,
-    }
+    let one = note_check(none, first);
+    let two = note_check(one, second);
+    note_check(two, third)
 }
