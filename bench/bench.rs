@@ -126,6 +126,31 @@ fn sv_row(rounds: usize, frames: usize, streams: usize, len: usize, going: bool)
     row(&format!("SV, {streams} streams, svID of {len} octets{verdict}"), true, &ways);
 }
 
+// What a call by value costs that does nothing: the monitor and a frame in, the monitor and a result out.
+#[inline(never)]
+extern "C" fn give_back(monitor: mokyndu::Monitor, frame: mokyndu::SvFrame) -> mokyndu::Inspected {
+    let mut result: mokyndu::Verdict = unsafe { std::mem::zeroed() };
+    result.allowed = frame.svid_len;
+    mokyndu::Inspected { monitor, result }
+}
+
+fn nothing_done(rounds: usize, frames: usize) {
+    let mut frame: mokyndu::SvFrame = unsafe { std::mem::zeroed() };
+    frame.svid_len = 1;
+    let ways = timed(rounds, frames, &mut [&mut || {
+        let mut m = unsafe { mokyndu_new() };
+        let mut allowed = 0;
+        for _ in 0..frames {
+            let i = give_back(m, *black_box(&frame));
+            m = i.monitor;
+            allowed += i.result.allowed as u64;
+        }
+        black_box(&m);
+        allowed
+    }]);
+    println!("\nA call by value of the same monitor, frame and result that does nothing: {:.0} / {:.0}", ways[0].best(), ways[0].median());
+}
+
 fn goose_row(rounds: usize, frames: usize, streams: usize) {
     let ours: Vec<GooseFrame> = (0..frames)
         .map(|k| GooseFrame {
@@ -301,4 +326,5 @@ fn main() {
     mms_row(rounds, frames);
     raw_row(rounds, frames, 39);
     raw_row(rounds, frames, 120);
+    nothing_done(rounds, frames);
 }

@@ -4,7 +4,7 @@ use mathlib.Core.List.{List, foldl}
 use mathlib.Core.Path.{_≡_, refl, ap, _∙_}
 use native.Mathlib.Numerals.{add-one}
 use native.Mathlib.Omega.{arith}
-use lib.ListN.{length, take, drop, length-take, length-drop}
+use lib.ListN.{length, take, drop}
 use Rattle.records.specs.declared.frame.SvFrame.{SvFrame}
 use Rattle.records.specs.declared.result.Pushed.{Pushed}
 use Rattle.records.specs.Alert.{sourceSv}
@@ -21,15 +21,11 @@ use Rattle.inspection.specs.Monitor.{mmsTotalInspected, gooseTotalInspected, wi
 use Rattle.inspection.specs.Report.{Finding, ended, reportedNext, notedOf}
 use Rattle.inspection.proofs.StageLaws.{sv-inspected, noted-after, noted-verdict}
 
--- the record of a frame that is inspected and its verdict lie within their octets
+-- the record of a frame that is inspected lies within the octets
 module _ (frames verdicts : ℕ) {i n : ℕ} (e : n ≡ batchCount frames verdicts) (h : i < n) where
   pub record-fits : i * 160 + 160 ≤ frames
   unfolding batchCount
   record-fits = omega arith
-
-  pub verdict-fits : i * 8 + 8 ≤ verdicts
-  unfolding batchCount
-  verdict-fits = omega arith
 
 -- past the last frame, all of them are inspected
 pub all-passed : {i n count : ℕ} → i ≤ n → n ≤ i → n ≡ count → i ≡ count
@@ -39,9 +35,6 @@ all-passed a b e = omega arith
 module _ (frames : List ℕ) (i : ℕ) where
   abbrev cut : List ℕ
   cut = take (i * 160 + 160 - i * 160) (drop (i * 160) frames)
-
-  pub cut-length : i * 160 + 160 ≤ length frames → 160 ≤ length cut
-  cut-length h = simp (length-take, length-drop) (omega arith)
 
   pub cut-frame : {f : SvFrame} → f ≡ svFrameOf cut → f ≡ frameAt frames i
   cut-frame e =

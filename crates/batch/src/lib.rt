@@ -83,6 +83,7 @@ pub fn inspect_sv_batch(m: Iec61850Monitor, frames: &[u8], verdicts: &mut [u8]) 
         );
         let permitted = rule.permits();
         let mut hijack = false;
+        // asked here too, since most frames have no data set and the call costs more than the question
         if frame.dataset_ref_len > 0 {
             let dataset_ref = frame.dataset_ref;
             hijack = hijack_check_if(

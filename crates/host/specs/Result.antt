@@ -1,5 +1,5 @@
 -- What the engine answers, in numbers: alerts, results, and the monitor beside them.
-use mathlib.Core.List.{List, map}
+use mathlib.Core.List.{map}
 use Rattle.records.specs.declared.alert.CodedAlert.{CodedAlert}
 use Rattle.records.specs.declared.result.InspectResult.{InspectResult}
 use Rattle.records.specs.Alert.{severityNumber, codeNumber}

@@ -13,11 +13,11 @@ use Rattle.records.specs.declared.search.Found.{Found}
 use Rattle.records.specs.declared.search.Found.the-variants.{At, Nothing}
 use Rattle.records.specs.declared.name.Names.{Names}
 use Rattle.records.specs.Ageing.{nextTick, slotFor, newSlot, usedAt}
-use Rattle.records.specs.Name.{validLen, nameOf, padded, sameName, nameStored}
+use Rattle.records.specs.Name.{padded, sameName, nameStored}
 use Rattle.records.specs.Search.{first, slotOr}
 use Rattle.records.specs.Table.{inUse}
 use Rattle.records.proofs.Booleans.{and-both, answered, cond-yes, cond-no}
-use Rattle.records.proofs.NameLaws.{kept-len, kept-octets, stored-again}
+use Rattle.records.proofs.NameLaws.{stored-again}
 use Rattle.records.proofs.TableLaws.{found-passes, found-or-below, new-slot-below, new-slot-is}
 use Rattle.inspection.specs.declared.sv_seq.SvSeqTable.{SvSeqTable}
 use Rattle.inspection.specs.declared.sv_seq.SvSeqOutcome.{SvSeqOutcome}

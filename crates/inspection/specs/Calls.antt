@@ -1,7 +1,7 @@
 -- Calls of every entry, and what a list of them leaves.
 use Prim.Native.Nat.{ℕ}
 use mathlib.Core.Bool.{Bool}
-use mathlib.Core.List.{List, [], _∷_, foldl}
+use mathlib.Core.List.{List, foldl}
 use Rattle.records.specs.declared.frame.MmsFrame.{MmsFrame}
 use Rattle.records.specs.declared.frame.GooseFrame.{GooseFrame}
 use Rattle.records.specs.declared.frame.SvFrame.{SvFrame}

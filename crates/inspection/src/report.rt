@@ -102,8 +102,8 @@ pub fn none_found(first: CheckAlert, second: CheckAlert, third: CheckAlert) -> b
     false
 }
 
-// The result that reports what the checks found, and the counters after its alerts. Most frames have none.
-pub fn push_alerts(
+// The result that reports what the checks found, and the counters after its alerts.
+fn push_alerts(
     counters: AlertCounters,
     alerts: CheckAlerts,
     source_type: u8,
@@ -120,15 +120,12 @@ pub fn push_alerts(
         result: clean,
         counters: counters,
     };
-    if none_found(first, second, third) {
-        return none;
-    }
     let one = push_alert(none, first, source_type, source_id, ts_us);
     let two = push_alert(one, second, source_type, source_id, ts_us);
     push_alert(two, third, source_type, source_id, ts_us)
 }
 
-// The same with the counters where they stand. Without an alert they are left, and the clean result is made where it is wanted.
+// The same with the counters where they stand. Most frames have no alert: the counters are left, and a clean result is answered at once.
 pub fn push_alerts_in<'a>(
     alerts: CheckAlerts,
     source_type: u8,
@@ -175,8 +172,8 @@ fn allowed_octet(octet: u8, severity: AlertSeverity, refuses: bool) -> u8
     if severity.denies() { 0 } else { octet }
 }
 
-// A verdict with one more alert in the next of its three places, and the counters after it. A verdict with three alerts is left: none of ours gets a
-// fourth.
+// A verdict with one more alert in the next of its three places, and the counters after it. One with three alerts is left: no inspection
+// has a fourth.
 fn note_alert(n: Noted, severity: AlertSeverity, code: AlertCode, refuses: bool) -> Noted
     ensures { λ r. ⌜ r ≡ alertNoted n (record { severity = severity; code = code; refuses = refuses }) ⌝ }
 {
@@ -212,8 +209,8 @@ fn note_check(n: Noted, alert: CheckAlert) -> Noted
     }
 }
 
-// The verdict that reports what the checks found, and the counters after it. No result is made: a verdict does not hold the source, number and time
-// that the definition gives each alert, so they are not used.
+// The verdict that reports what the checks found, and the counters after it. No result is made: a verdict does not hold the source, its
+// number and the time that the definition gives each alert, so they are not read.
 pub fn verdict_on(
     counters: AlertCounters,
     alerts: CheckAlerts,

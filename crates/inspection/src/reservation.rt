@@ -272,8 +272,8 @@ pub fn cb_hijack_check_in<'a>(
     false
 }
 
-// The use of a control block or data set by a frame that the rules may refuse: such a frame is not looked up, and one without a name
-// neither.
+// The use of a control block or data set by a frame that the rules may refuse: such a frame is not looked up, nor is one without a
+// name.
 pub fn hijack_check_if<'a>(
     permitted: bool,
     octets: &'a [u8; 1024],

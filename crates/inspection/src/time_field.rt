@@ -152,7 +152,7 @@ pub fn check_time_field_in<'a>(
     plan.alert
 }
 
-// The clock check of a frame that the checking may not reach: such a frame is not looked up, and one without a clock neither.
+// The clock check of a frame that the checking may not reach: such a frame is not looked up, nor is one without a clock.
 pub fn clock_check_if<'a>(
     reached: bool,
     src_macs: &'a mut [u64; 16],

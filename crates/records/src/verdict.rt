@@ -3,44 +3,9 @@
 ghost use Prim.Native.Nat.{_+_, _≤_};
 ghost use mathlib.Core.Path.{_≡_};
 ghost use lib.ListN.{length};
-ghost use Rattle.records.specs.Alert.{severityNumber};
 ghost use Rattle.records.specs.Name.{octetAt, overwritten};
-ghost use Rattle.records.specs.Verdict.{verdictOf};
-use crate::alert::CodedAlert;
-use crate::result::InspectResult;
 
 pub const VERDICT_LEN: usize = 8;
-
-// The severity of an alert, as a number.
-fn severity_of(alert: CodedAlert) -> u8
-    ensures { λ r. ⌜ r ≡ severityNumber (alert .alert .severity) ⌝ }
-{
-    let inner = alert.alert;
-    let severity = inner.severity;
-    severity.number()
-}
-
-// The verdict of a result.
-pub fn verdict_of(result: InspectResult) -> [u8; 8]
-    ensures { λ r. ⌜ r ≡ verdictOf result ⌝ }
-{
-    let first = result.alerts[0];
-    let second = result.alerts[1];
-    let third = result.alerts[2];
-    let code1 = first.code;
-    let code2 = second.code;
-    let code3 = third.code;
-    [
-        result.allowed as u8,
-        result.alert_count,
-        code1.code(),
-        severity_of(first),
-        code2.code(),
-        severity_of(second),
-        code3.code(),
-        severity_of(third),
-    ]
-}
 
 // Puts the first `n` octets of a verdict from a place on.
 fn put_first(verdicts: &mut [u8], at: usize, verdict: [u8; 8], n: usize)

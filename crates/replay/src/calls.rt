@@ -8,7 +8,7 @@ use inspection::rules::Added;
 use script::answers::MonitorReadings;
 use script::answers::put_error;
 use script::answers::put_readings;
-use script::answers::totals_read;
+use script::answers::readings_of;
 use script::arguments::flag_at;
 use script::arguments::mac_at;
 use script::arguments::rest_at;
@@ -18,9 +18,8 @@ use script::frames::schedule;
 use script::text::put_octets;
 use wire::number::octet_at;
 
-// What the readers of a monitor answer.
 pub fn readings(m: Iec61850Monitor) -> MonitorReadings {
-    totals_read(
+    readings_of(
         m.mms_total_inspected(),
         m.goose_total_inspected(),
         m.sv_total_inspected(),
@@ -48,7 +47,7 @@ fn with_totals(m: Iec61850Monitor, line: &mut [u8], at: usize) -> Step
     }
 }
 
-// The monitor after one of the calls 0 to 9, which answer nothing else.
+// The monitor after one of the calls 0 to 2 and 4 to 9, which answer nothing else.
 fn settle(m: Iec61850Monitor, number: u8, call: &[u8]) -> Iec61850Monitor {
     match number {
         0 => Iec61850Monitor::new(),
@@ -64,7 +63,7 @@ fn settle(m: Iec61850Monitor, number: u8, call: &[u8]) -> Iec61850Monitor {
     }
 }
 
-// One of the calls 0 to 9.
+// One of the calls 0 to 2 and 4 to 9.
 fn make_setting(m: Iec61850Monitor, number: u8, call: &[u8], line: &mut [u8], at: usize) -> Step
     requires { ⌜ at ≤ length (now line) ⌝ }
     ensures { λ r. ⌜ Counts (r .end) (now (line .exit)) ⌝ }

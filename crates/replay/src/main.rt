@@ -22,7 +22,7 @@ use records::name::Names;
 use records::result::AlertCounters;
 use script::answers::MonitorReadings;
 use script::answers::put_malformed;
-use script::answers::totals_read;
+use script::answers::readings_of;
 use script::arguments::front;
 use script::input::Input;
 use script::input::behind_line;
@@ -146,7 +146,7 @@ fn answer_call(
     make_call(m, front(call, n), output, least(at, 65536))
 }
 
-// What the next call is: there is none, an inspection, another call that may change the monitor, or one that leaves it.
+// What the next call is: there is none, an inspection, another call that may change the monitor, or one that leaves it as it is.
 enum CallKind {
     Nothing,
     Mms,
@@ -156,7 +156,7 @@ enum CallKind {
     Query,
 }
 
-// The kind of the call whose record ends at n, by its number; 0 if there is none.
+// The kind, by its number, of the call whose record ends at n; n is 0 if there is none.
 fn call_kind(call: &[u8; 262144], n: usize) -> CallKind {
     if n == 0 {
         return CallKind::Nothing;
@@ -170,7 +170,7 @@ fn call_kind(call: &[u8; 262144], n: usize) -> CallKind {
     }
 }
 
-// Answers a call that leaves the monitor.
+// Answers a call that leaves the monitor as it is.
 fn answer_query(
     read: MonitorReadings,
     call: &[u8; 262144],
@@ -265,7 +265,7 @@ fn make_mms_inspections(
             &mut next_alert_id,
             &mut total_alerts,
         );
-        let read = totals_read(
+        let read = readings_of(
             total,
             m.totals.goose_total_inspected,
             m.totals.sv_total_inspected,
@@ -383,7 +383,7 @@ fn make_goose_inspections(
             &mut next_alert_id,
             &mut total_alerts,
         );
-        let read = totals_read(
+        let read = readings_of(
             m.totals.mms_total_inspected,
             total,
             m.totals.sv_total_inspected,
@@ -432,7 +432,7 @@ fn make_goose_inspections(
     }
 }
 
-// What SV inspections change in a monitor, and the run with the next call, which is another.
+// What SV inspections change in a monitor, and the run with the next call.
 struct AfterSv {
     sv_seq: SvSeqTable,
     time_trackers: TimeTrackers,
@@ -450,14 +450,14 @@ fn after_unread(
     call: &mut [u8; 262144],
     output: &mut [u8; 65536],
 ) -> Run {
-    if !sv.raw {
+    if sv.is_read || !sv.raw {
         return run;
     }
     let end = put_unread(output, run.end, sv, read);
     after_answer(run, end, buffer, call, output)
 }
 
-// Makes SV inspections until another call or a raw frame comes that cannot be read, in columns of the monitor's tables.
+// Makes SV inspections until another call comes or a raw frame that cannot be read, which is answered too; in columns of the monitor's tables.
 fn make_sv_inspections(
     m: Iec61850Monitor,
     start: Run,
@@ -520,7 +520,7 @@ fn make_sv_inspections(
             &mut next_alert_id,
             &mut total_alerts,
         );
-        let read = totals_read(
+        let read = readings_of(
             m.totals.mms_total_inspected,
             m.totals.goose_total_inspected,
             total,
@@ -532,7 +532,7 @@ fn make_sv_inspections(
         sv = sv_call(call, run.call_end);
         turns -= 1;
     }
-    let read = totals_read(
+    let read = readings_of(
         m.totals.mms_total_inspected,
         m.totals.goose_total_inspected,
         total,

@@ -289,7 +289,7 @@ pub struct MonitorReadings {
     strict: bool,
 }
 
-pub fn totals_read(mms: u64, goose: u64, sv: u64, alerts: u64, strict: bool) -> MonitorReadings {
+pub fn readings_of(mms: u64, goose: u64, sv: u64, alerts: u64, strict: bool) -> MonitorReadings {
     MonitorReadings {
         mms: mms,
         goose: goose,

@@ -1,4 +1,4 @@
-// The calls of a script that leave the monitor: what they answer, and the totals.
+// The calls of a script that leave the monitor as it is: what they answer, and the totals.
 ghost use Prim.Native.Nat.{_≤_};
 ghost use lib.ListN.{length};
 ghost use Rattle.io.specs.Counts.{Counts};
@@ -82,7 +82,7 @@ fn put_bucket_call(call: &[u8], line: &mut [u8], at: usize) -> usize
     put_bucket(line, at, called)
 }
 
-// Puts what one of the calls 3 and 17 to 20 answers. They leave the monitor.
+// Puts what one of the calls 3 and 17 to 20 answers.
 fn put_answer(call: &[u8], line: &mut [u8], at: usize) -> usize
     requires { ⌜ at ≤ length (now line) ⌝ }
     ensures { λ r. ⌜ Counts r (now (line .exit)) ⌝ }
@@ -96,7 +96,7 @@ fn put_answer(call: &[u8], line: &mut [u8], at: usize) -> usize
     }
 }
 
-// Puts the line of a call that leaves the monitor.
+// Puts the line of such a call.
 pub fn put_query(read: MonitorReadings, call: &[u8], line: &mut [u8], at: usize) -> usize
     requires { ⌜ at ≤ length (now line) ⌝ }
     ensures { λ r. ⌜ Counts r (now (line .exit)) ⌝ }

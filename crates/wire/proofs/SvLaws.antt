@@ -11,7 +11,6 @@ use Rattle.records.specs.declared.frame.SvFrame.{SvFrame}
 use Rattle.wire.specs.declared.element.Element.{Element}
 use Rattle.wire.specs.declared.element.Element.the-variants.{Read, Unreadable}
 use Rattle.wire.specs.declared.sv.Parsed.the-variants.{Frame}
-use Rattle.wire.specs.declared.sv.ParsedSv.{ParsedSv}
 use Rattle.wire.specs.declared.sv.SvFields.{SvFields}
 use Rattle.wire.specs.Element.{Elements, element, elements, ended, elementThen, afterElement}
 use Rattle.wire.specs.Sv.{refusedSv, fieldFits, withField, fieldsFrom, noFields, refusedFields, goesOn, withElement, fieldsOn}

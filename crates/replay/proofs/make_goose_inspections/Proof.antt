@@ -24,8 +24,8 @@ goose-call-requires c κs = search needs
 inspect-goose-in-requires : tie.Need-inspect-goose-in-requires Inv-loop μ-loop
 inspect-goose-in-requires c κs = search needs
 
-totals-read-requires : tie.Need-totals-read-requires Inv-loop μ-loop
-totals-read-requires c κs = search needs
+readings-of-requires : tie.Need-readings-of-requires Inv-loop μ-loop
+readings-of-requires c κs = search needs
 
 put-inspected-requires : tie.Need-put-inspected-requires Inv-loop μ-loop
 put-inspected-requires c κs = search needs
@@ -59,7 +59,7 @@ make-goose-inspections-spec =
     is-call-requires
     goose-call-requires
     inspect-goose-in-requires
-    totals-read-requires
+    readings-of-requires
     put-inspected-requires
     after-answer-requires
     sub-turns

@@ -21,8 +21,8 @@ loop-holds c = search needs
 inspect-sv-in-requires : tie.Need-inspect-sv-in-requires Inv-loop μ-loop
 inspect-sv-in-requires c κs = search needs
 
-totals-read-requires : tie.Need-totals-read-requires Inv-loop μ-loop
-totals-read-requires c κs = search needs
+readings-of-requires : tie.Need-readings-of-requires Inv-loop μ-loop
+readings-of-requires c κs = search needs
 
 put-sv-inspected-requires : tie.Need-put-sv-inspected-requires Inv-loop μ-loop
 put-sv-inspected-requires c κs = search needs
@@ -46,8 +46,8 @@ loop-less c = omega (arith, body c .loop-test .taken)
 loop-again : tie.Need-loop-again Inv-loop μ-loop
 loop-again c = search needs
 
-totals-read-requires-2 : tie.Need-totals-read-requires-2 Inv-loop μ-loop
-totals-read-requires-2 c κs = search needs
+readings-of-requires-2 : tie.Need-readings-of-requires-2 Inv-loop μ-loop
+readings-of-requires-2 c κs = search needs
 
 after-unread-requires : tie.Need-after-unread-requires Inv-loop μ-loop
 after-unread-requires c κs = search needs
@@ -64,13 +64,13 @@ make-sv-inspections-spec =
     sv-call-requires
     loop-holds
     inspect-sv-in-requires
-    totals-read-requires
+    readings-of-requires
     put-sv-inspected-requires
     after-answer-requires
     sv-call-requires-2
     sub-turns
     loop-less
     loop-again
-    totals-read-requires-2
+    readings-of-requires-2
     after-unread-requires
     returns)

@@ -1,10 +1,9 @@
 -- `mokyndu_inspect_goose_in` meets its contract.
 use Prim.Native.Nat.{ℕ}
-use mathlib.Core.Path.{_≡_, ap, _∙_}
+use mathlib.Core.Path.{ap, _∙_}
 use borrow.Author.Needs.{needs}
 use Rattle.records.specs.Verdict.{verdictOf}
 use Rattle.inspection.specs.declared.monitor.Iec61850Monitor.{Iec61850Monitor}
-use Rattle.inspection.specs.declared.monitor.Inspected.{Inspected}
 use Rattle.inspection.specs.GooseSeq.{gooseTableOf}
 use Rattle.inspection.specs.InspectGoose.{inspectGoose, gooseMonitorOf}
 use Rattle.inspection.specs.Reservation.{cbTableOf}

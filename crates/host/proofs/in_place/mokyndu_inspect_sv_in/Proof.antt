@@ -1,10 +1,7 @@
 -- `mokyndu_inspect_sv_in` meets its contract.
 use Prim.Native.Nat.{ℕ}
-use mathlib.Core.Path.{_≡_, ap, _∙_}
 use borrow.Author.Needs.{needs}
-use Rattle.records.specs.Verdict.{verdictOf}
 use Rattle.inspection.specs.declared.monitor.Iec61850Monitor.{Iec61850Monitor}
-use Rattle.inspection.specs.declared.monitor.Inspected.{Inspected}
 use Rattle.inspection.specs.InspectSv.{svMonitorOf}
 use Rattle.inspection.specs.Reservation.{cbTableOf}
 use Rattle.inspection.specs.SvSeq.{svTableOf}

@@ -1,21 +1,11 @@
 -- `push_alerts` meets its contract.
 use borrow.Author.Needs.{needs}
-use Rattle.inspection.proofs.StageLaws.{none-pushed, three-pushed}
+use Rattle.inspection.proofs.StageLaws.{three-pushed}
 use Rattle.inspection.proofs.report.push_alerts.Statement.{statement}
 use Rattle.inspection.proofs.report.push_alerts.Tie as tie
 
 clean-requires : tie.Need-clean-requires
 clean-requires c κs = search needs
-
-none-found-requires : tie.Need-none-found-requires
-none-found-requires c κs = search needs
-
-returns : tie.Need-returns
-returns c =
-    let n = c .before in
-    let k = n .before in
-    let a = k .before .args in
-    none-pushed _ _ _ (a .counters) (a .alerts) (k .clean .ensures) (n .none-found .ensures) (c .if1 .taken)
 
 push-alert-requires : tie.Need-push-alert-requires
 push-alert-requires c κs = search needs
@@ -26,21 +16,12 @@ push-alert-requires-2 c κs = search needs
 push-alert-requires-3 : tie.Need-push-alert-requires-3
 push-alert-requires-3 c κs = search needs
 
-returns-2 : tie.Need-returns-2
-returns-2 c =
-    let n = c .before .before .before .before .before in
+returns : tie.Need-returns
+returns c =
+    let n = c .before .before .before in
     let a = n .before .args in
     three-pushed _ _ _ (a .counters) (a .alerts) (n .clean .ensures) (c .before .before .push-alert .ensures) (c .before .push-alert2 .ensures)
     (c .push-alert3 .ensures)
 
 pub push-alerts-spec : {M : Type 1} → statement M
-push-alerts-spec =
-    tie.close
-    (tie.spec
-    clean-requires
-    none-found-requires
-    returns
-    push-alert-requires
-    push-alert-requires-2
-    push-alert-requires-3
-    returns-2)
+push-alerts-spec = tie.close (tie.spec clean-requires push-alert-requires push-alert-requires-2 push-alert-requires-3 returns)

@@ -1,6 +1,6 @@
 -- `apdu_of` meets its contract.
 use native.Mathlib.Omega.{arith}
-use mathlib.Core.Path.{sym, _∙_}
+use mathlib.Core.Path.{sym}
 use Rattle.wire.proofs.HeaderLaws.{appid-range, apdu-short, apdu-other, apdu-small, apdu-past, apdu-is}
 use borrow.Author.Needs.{needs}
 use Rattle.wire.proofs.header.apdu_of.Statement.{statement}

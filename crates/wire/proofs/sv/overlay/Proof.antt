@@ -1,7 +1,7 @@
 -- `overlay` meets its contract. The invariant: the places passed are written.
 use native.Mathlib.Omega.{arith}
 use borrow.Author.Needs.{needs}
-use mathlib.Core.Path.{_≡_, refl, _∙_}
+use mathlib.Core.Path.{_≡_, refl}
 use Prim.Native.Nat.{_≤_, _-_}
 use lib.ListN.{length}
 use Rattle.records.specs.Name.{validLen, octetAt, overwritten}

@@ -1,5 +1,4 @@
 -- `with_field` meets its contract.
-use mathlib.Core.Path.{_∙_}
 use borrow.Author.Tests.{ne-eqb}
 use Rattle.wire.specs.Sv.{withField}
 use borrow.Author.Needs.{needs}
