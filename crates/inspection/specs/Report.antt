@@ -55,16 +55,6 @@ abbrev pub permitted : Iec61850Monitor → (ℕ → Checked) → RuleCheck → C
 permitted m next (Refused severity code) = ended m (refusal severity code ∷ [])
 permitted m next (Rate rate) = next rate
 
--- whether the rules let a frame pass
-abbrev pub permits : RuleCheck → Bool
-permits (Refused severity code) = false
-permits (Rate rate) = true
-
--- the rate that they give it, 0 where they refuse it
-abbrev pub rateGiven : RuleCheck → ℕ
-rateGiven (Refused severity code) = 0
-rateGiven (Rate rate) = rate
-
 -- a result with this allowed flag
 abbrev pub withAllowed : InspectResult → Bool → InspectResult
 withAllowed r allowed =
@@ -91,7 +81,17 @@ reported source sourceNumber time c = inspected (foldl (reportedNext source sour
     inspected : Pushed → Inspected
     inspected p = record { monitor = withAlerts (c .monitor) (p .counters); result = p .result }
 
--- ---- what the code keeps of the findings
+-- ---- for the code: what it asks of the rules' answer, and keeps of the findings
+
+-- whether the rules let a frame pass
+abbrev pub permits : RuleCheck → Bool
+permits (Refused severity code) = false
+permits (Rate rate) = true
+
+-- the rate that they give it, 0 where they refuse it
+abbrev pub rateGiven : RuleCheck → ℕ
+rateGiven (Refused severity code) = 0
+rateGiven (Rate rate) = rate
 
 -- the alerts of a check's answer
 abbrev pub findingsOf : CheckAlert → List Finding
