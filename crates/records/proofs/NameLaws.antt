@@ -201,7 +201,7 @@ name-padded name h =
     ∙ cond-yes _ _ (lt-ltb k (length name) m))
 
 -- what a slot holds is the same when it is stored again
-overwritten-again : (l : List ℕ) (start : ℕ) (f : ℕ → ℕ) (n : ℕ) → ((k : ℕ) → k < n → octetAt l (start + k) ≡ f k) → overwritten l start f n ≡ l
+pub overwritten-again : (l : List ℕ) (start : ℕ) (f : ℕ → ℕ) (n : ℕ) → ((k : ℕ) → k < n → octetAt l (start + k) ≡ f k) → overwritten l start f n ≡ l
 unfolding overwritten
 overwritten-again l start f zero e = refl
 overwritten-again l start f (suc n) e =

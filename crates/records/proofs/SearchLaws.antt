@@ -48,3 +48,14 @@ searched test i (suc n) = go (test i) refl (searched test (suc i) n)
     go true e f = hit i (omega arith) e
     go false e (hit s h p) = hit s (omega arith) p
     go false e (miss f) = miss (λ j a b. by-cases (ℕ-discrete j i) (λ p. rw p e) (λ p. f j (omega arith) (omega arith)))
+
+-- the slots before the one that is found fail the test
+pub searched-before : (test : ℕ → Bool) (i n s : ℕ) → firstFrom test i n ≡ At s → (j : ℕ) → i ≤ j → j < s → test j ≡ false
+unfolding firstFrom
+searched-before test i zero s q j a b = let z : _≡_ {A = ℕ} 0 1 = cc in absurd (omega arith)
+searched-before test i (suc n) s q j a b = go (test i) refl q (searched-before test (suc i) n s)
+  where
+    go : (t : Bool) → test i ≡ t → cond t (At i) (firstFrom test (suc i) n) ≡ At s
+        → (firstFrom test (suc i) n ≡ At s → (k : ℕ) → suc i ≤ k → k < s → test k ≡ false) → test j ≡ false
+    go true e r ih = let z : i ≡ s = cc in absurd (omega arith)
+    go false e r ih = by-cases (ℕ-discrete j i) (λ p. rw p e) (λ p. ih r j (omega arith) b)

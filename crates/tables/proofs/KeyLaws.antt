@@ -1,0 +1,117 @@
+-- Laws of keys: the words of a name, one at a time, and that keys are equal exactly when their numbers and names are.
+use Prim.Native.Nat.{ℕ, zero, suc, _+_, _*_, _/_, _%_, _^_, _≤_, _<_}
+use mathlib.Core.List.{List, _∷_, head-eq-of-cons-eq, tail-eq-of-cons-eq}
+use mathlib.Core.Logic.{_↔_, by-cases}
+use mathlib.Core.Path.{_≡_, refl, sym, ap, _∙_}
+use native.Mathlib.Decide.{decLt}
+use native.Mathlib.Nat.{not-suc-le-zero}
+use native.Mathlib.Numerals.{add-one}
+use native.Mathlib.Omega.{arith}
+use borrow.Author.Tests.{lt-ltb, le-ltb}
+use lib.ListN.{length, getD, set, replicate, List·getD-eq-default}
+use lib.Seq.{getD-take, ext-getD}
+use Rattle.records.proofs.Booleans.{cond-yes, cond-no}
+use Rattle.records.proofs.NameLaws.{tabulate-at, tabulate-same, padded-at, length-name}
+use Rattle.records.specs.Legal.{Octets}
+use Rattle.records.specs.Name.{validLen, nameOf, tabulate, octetAt, padded, overwritten}
+use Rattle.tables.specs.Key.{packed, nameWord, summed, keyOf}
+
+-- ---- the words of a name
+
+pub packed-same : (f g : ℕ → ℕ) (n : ℕ) → ((k : ℕ) → k < n → f k ≡ g k) → packed f n ≡ packed g n
+unfolding packed
+packed-same f g zero e = refl
+packed-same f g (suc n) e = rw (e 0 (omega arith), packed-same (λ k. f (suc k)) (λ k. g (suc k)) n (λ k l. e (suc k) (omega arith)))
+
+summed-same : (number : ℕ) (f g : ℕ → ℕ) (n : ℕ) → ((k : ℕ) → k < n → f k ≡ g k) → summed number f n ≡ summed number g n
+unfolding summed
+summed-same number f g zero e = refl
+summed-same number f g (suc n) e = rw (e n (omega arith), summed-same number f g n (λ k l. e k (omega arith)))
+
+summed-below : (number : ℕ) (f : ℕ → ℕ) (n : ℕ) → number < 2 ^ 64 → summed number f n < 2 ^ 64
+unfolding summed
+summed-below number f zero h = h
+summed-below number f (suc n) h = omega arith
+
+pub summed-more : (number : ℕ) (f : ℕ → ℕ) (k : ℕ) {sum word next : ℕ} → sum ≡ summed number f k → word ≡ f k → next ≡ (sum + word) % 2 ^ 64
+    → next ≡ summed number f (k + 1)
+unfolding summed
+summed-more number f k s w n = rw (add-one, n, s, w)
+
+-- the key that is written: the sum, the length and the words
+pub key-written : (f : ℕ → ℕ) (sum len : ℕ) {key : List ℕ} → key ≡ overwritten (replicate 10 0) 2 f 8
+    → set (set key 0 sum) 1 len ≡ sum ∷ len ∷ tabulate f 8
+unfolding overwritten tabulate
+key-written f sum len e = rw e
+
+-- a name that a frame states, and its octets with zeros behind its end, have the same words
+module _ (octets : List ℕ) (len : ℕ) (size : length octets ≡ 64) where
+  octet-same : (k : ℕ) → k < 64 → octetAt (padded octets (validLen len)) k ≡ octetAt (nameOf octets len) k
+  octet-same k h =
+      padded-at octets (validLen len) k h
+      ∙ by-cases (decLt k (validLen len))
+      (λ l. cond-yes _ _ (lt-ltb k (validLen len) l) ∙ sym (getD-take (validLen len) octets k 0 l))
+      (λ l. cond-no _ _ (le-ltb k (validLen len) (omega arith)) ∙ sym (List·getD-eq-default (nameOf octets len) 0 {n = k} (omega (arith, length-name octets len size))))
+
+  word-same : (k : ℕ) → k < 8 → packed (λ j. octetAt (padded octets (validLen len)) (k * 8 + j)) 8 ≡ nameWord (nameOf octets len) k
+  unfolding nameWord
+  word-same k h = packed-same _ _ 8 (λ j l. octet-same (k * 8 + j) (omega arith))
+
+  pub key-of-frame : (number : ℕ) {sum valid : ℕ} {name key : List ℕ} → valid ≡ validLen len → name ≡ padded octets valid
+      → sum ≡ summed number (λ k. packed (λ j. octetAt name (k * 8 + j)) 8) 8 → key ≡ overwritten (replicate 10 0) 2 (λ k. packed (λ j. octetAt name (k * 8 + j)) 8) 8
+      → set (set key 0 sum) 1 valid ≡ keyOf number (nameOf octets len)
+  unfolding keyOf
+  key-of-frame number {sum} {valid} {name} v n s e =
+      let f : ℕ → ℕ = λ k. packed (λ j. octetAt name (k * 8 + j)) 8 in
+      let each : (k : ℕ) → k < 8 → f k ≡ nameWord (nameOf octets len) k = λ k h.
+      ap (λ (o : List ℕ). packed (λ j. octetAt o (k * 8 + j)) 8) (n ∙ ap (padded octets) v) ∙ word-same k h in
+      let p = s ∙ summed-same number f (nameWord (nameOf octets len)) 8 each in
+      let q = v ∙ sym (length-name octets len size) in
+      let r = tabulate-same f (nameWord (nameOf octets len)) 8 each in
+      key-written f sum valid e ∙ (λ i. p i ∷ q i ∷ r i)
+
+-- ---- keys told apart
+
+-- octets packed into equal words are equal
+packed-injective : (f g : ℕ → ℕ) (n : ℕ) → ((k : ℕ) → f k < 256) → ((k : ℕ) → g k < 256) → packed f n ≡ packed g n → (k : ℕ) → k < n → f k ≡ g k
+unfolding packed
+packed-injective f g zero a b e k h = absurd (not-suc-le-zero h)
+packed-injective f g (suc n) a b e zero h = omega (arith, a 0, b 0)
+packed-injective f g (suc n) a b e (suc k) h =
+    packed-injective (λ k. f (suc k)) (λ k. g (suc k)) n (λ k. a (suc k)) (λ k. b (suc k)) (omega (arith, a 0, b 0)) k (omega arith)
+
+-- equal sums with equal words were made of equal numbers
+summed-injective : (m n : ℕ) (f : ℕ → ℕ) (k : ℕ) → m < 2 ^ 64 → n < 2 ^ 64 → summed m f k ≡ summed n f k → m ≡ n
+unfolding summed
+summed-injective m n f zero a b e = e
+summed-injective m n f (suc k) a b e = summed-injective m n f k a b (omega (arith, e, summed-below m f k a, summed-below n f k b))
+
+-- names of equal words have equal octets
+octet-of-word : (a b : List ℕ) → Octets a → Octets b → ((k : ℕ) → k < 8 → nameWord a k ≡ nameWord b k) → (k : ℕ) → k < 64 → octetAt a k ≡ octetAt b k
+unfolding nameWord
+octet-of-word a b oa ob word k h =
+    let i = k / 8 in
+    let r = k % 8 in
+    let s : i * 8 + r ≡ k = omega arith in
+    rw s at (packed-injective (λ j. octetAt a (i * 8 + j)) (λ j. octetAt b (i * 8 + j)) 8 (λ j. oa (i * 8 + j)) (λ j. ob (i * 8 + j)) (word i (omega arith)) r (omega arith))
+
+-- a number of 64 bits and a name of at most 64 octets
+pub record LegalKey (number : ℕ) (name : List ℕ) : Type 0 where
+  pub width : number < 2 ^ 64
+  pub short : length name ≤ 64
+  pub octets : Octets name
+
+-- keys are equal exactly when their numbers and names are
+module _ (m n : ℕ) (a b : List ℕ) (la : LegalKey m a) (lb : LegalKey n b) where
+  pub key-injective : keyOf m a ≡ keyOf n b → (m ≡ n) × (a ≡ b)
+  unfolding keyOf
+  key-injective e =
+      let words = tail-eq-of-cons-eq (tail-eq-of-cons-eq e) in
+      let word : (k : ℕ) → k < 8 → nameWord a k ≡ nameWord b k = λ k h.
+      sym (tabulate-at (nameWord a) 8 k 0 h) ∙ ap (λ (l : List ℕ). getD l k 0) words ∙ tabulate-at (nameWord b) 8 k 0 h in
+      let size : length a ≡ length b = head-eq-of-cons-eq (tail-eq-of-cons-eq e) in
+      let same = ext-getD 0 a b size (λ k h. octet-of-word a b (la .octets) (lb .octets) word k (omega (arith, la .short))) in
+      (summed-injective m n (nameWord a) 8 (la .width) (lb .width) (rw (← same) at (head-eq-of-cons-eq e)), same)
+
+  pub key-equal : (keyOf m a ≡ keyOf n b) ↔ ((m ≡ n) × (a ≡ b))
+  key-equal = (key-injective, λ e. rw (e .0, e .1))

@@ -1,0 +1,12 @@
+pub mod OrderLaws
+pub mod PlaceLaws
+pub mod NumberedLaws
+pub mod NamedLaws
+pub mod KeyLaws
+pub mod RankOrder
+pub mod RankTable
+pub mod WordTables
+pub mod TableAnswers
+pub mod MappedKeys
+pub mod WrappingAgeHolds
+pub mod TableAges

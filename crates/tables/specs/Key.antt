@@ -1,0 +1,23 @@
+-- Keys of tables by name (01, "Remembered tables", "MMS and GOOSE frames"): ten words, made of a number and of a name of at most 64 octets.
+use Prim.Native.Nat.{ℕ, zero, suc, _+_, _*_, _%_, _^_}
+use mathlib.Core.List.{List, _∷_}
+use lib.ListN.{length}
+use Rattle.records.specs.Name.{tabulate, octetAt}
+
+-- the number of n octets, the first the least
+unfoldable pub packed : (ℕ → ℕ) → ℕ → ℕ
+packed octet zero = 0
+packed octet (suc n) = octet 0 + 256 * packed (λ k. octet (suc k)) n
+
+-- word k of a name: its octets from 8 × k on, zeros behind its end
+unfoldable pub nameWord : List ℕ → ℕ → ℕ
+nameWord name k = packed (λ j. octetAt name (k * 8 + j)) 8
+
+-- a number with n words added, modulo 2^64
+unfoldable pub summed : ℕ → (ℕ → ℕ) → ℕ → ℕ
+summed number word zero = number
+summed number word (suc n) = (summed number word n + word n) % 2 ^ 64
+
+-- the key: the number with the words of the name added, so that a search compares one word of most slots; the name's length; its eight words
+unfoldable pub keyOf : ℕ → List ℕ → List ℕ
+keyOf number name = summed number (nameWord name) 8 ∷ length name ∷ tabulate (nameWord name) 8

@@ -1,0 +1,9 @@
+pub mod Order
+pub mod Column
+pub mod Place
+pub mod Key
+pub mod Named
+pub mod Numbered
+pub mod Table
+pub mod WordTable
+pub mod WrappingAge

@@ -1,0 +1,55 @@
+// Tables by number: ranks, numbers, values.
+ghost use mathlib.Core.Path.{_≡_};
+ghost use Prim.Native.Nat.{_≤_};
+ghost use lib.ListN.{length};
+ghost use Rattle.tables.specs.Numbered.{findNumber, numberEntered};
+use crate::column::set_word;
+use crate::order::new_slot;
+use crate::order::use_slot;
+use crate::place::Place;
+use records::search::Found;
+
+// Where the numbers begin.
+const NUMBERS: usize = 16;
+
+// The first slot in use that has this number.
+pub fn find_number(t: &[u64], number: u64) -> Found
+    requires { ⌜ 32 ≤ length (now t) ⌝ }
+    ensures { λ r. ⌜ r ≡ findNumber (now (t .entry)) number ⌝ }
+{
+    let mut i: usize = 0;
+    loop {
+        if i >= 16 {
+            break Found::Nothing;
+        }
+        if t[NUMBERS + i] == number && t[i] < 16 {
+            break Found::At(i);
+        }
+        i += 1;
+    }
+}
+
+// A frame of a number: uses its slot, and for a new number the slot that it takes, where the number is then stored.
+pub fn enter_number(t: &mut [u64], number: u64) -> Place
+    requires { ⌜ 32 ≤ length (now t) ⌝ }
+    ensures { λ r. ⌜ record { words = now (t .exit); place = r } ≡ numberEntered (now (t .entry)) number ⌝ }
+{
+    match find_number(t, number) {
+        Found::At(i) => {
+            use_slot(t, i);
+            Place {
+                slot: i,
+                known: true,
+            }
+        }
+        Found::Nothing => {
+            let slot = new_slot(t);
+            set_word(t, NUMBERS, slot, number);
+            use_slot(t, slot);
+            Place {
+                slot: slot,
+                known: false,
+            }
+        }
+    }
+}
