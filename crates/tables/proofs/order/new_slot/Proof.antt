@@ -20,7 +20,9 @@ loop-holds : tie.Need-loop-holds Inv-loop μ-loop
 loop-holds c = reached-first
 
 loop-again : tie.Need-loop-again Inv-loop μ-loop
-loop-again c = reached-next (c .before .before .before .loop .inv) (omega arith) refl (lt-leb _ _ (c .if2 .left))
+loop-again c =
+    let l = c .before .before .before in
+    reached-next (l .loop .inv) (omega arith) refl (lt-leb 15 (rankOf (l .before .args .t .now) (l .loop .i)) (omega arith))
 
 returns : tie.Need-returns Inv-loop μ-loop
 unfolding newSlot
@@ -28,7 +30,9 @@ returns c = ap (slotOr 15) (reached-end (c .before .loop .inv) (omega arith))
 
 returns-2 : tie.Need-returns-2 Inv-loop μ-loop
 unfolding newSlot
-returns-2 c = ap (slotOr 15) (reached-hit (c .before .before .before .loop .inv) (omega arith) refl (le-leb _ _ (c .if2 .taken)))
+returns-2 c =
+    let l = c .before .before .before in
+    ap (slotOr 15) (reached-hit (l .loop .inv) (omega arith) refl (le-leb 15 (rankOf (l .before .args .t .now) (l .loop .i)) (omega arith)))
 
 pub new-slot-spec : {M : Type 1} → statement M
 new-slot-spec =
