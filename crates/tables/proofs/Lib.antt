@@ -6,7 +6,8 @@ pub mod KeyLaws
 pub mod RankOrder
 pub mod RankTable
 pub mod WordTables
-pub mod TableAnswers
 pub mod MappedKeys
+pub mod KeyedTables
+pub mod Keyings
 pub mod WrappingAgeHolds
 pub mod TableAges

@@ -1,12 +1,12 @@
--- Lists by last use under keys told apart by others: what is remembered of frames whose keys are mapped is what is remembered, mapped.
+-- Lists by last use under keys that stand for others: a frame moves both alike.
 use Prim.Native.Nat.{ℕ}
-use mathlib.Core.List.{List, [], _∷_, map, foldl, reverse}
+use mathlib.Core.List.{List, [], _∷_, map}
 use mathlib.Core.Logic.{by-cases, if-pos, if-neg}
-use mathlib.Core.Path.{_≡_, refl, sym, ap, _∙_}
-use Rattle.records.proofs.ByLastUse.{touch, by-last-use}
-use Rattle.records.proofs.KeyedLists.{All, all-take, all-without}
+use mathlib.Core.Path.{_≡_, refl, sym, ap}
+use Rattle.records.proofs.ByLastUse.{touch}
+use Rattle.records.proofs.KeyedLists.{All}
 use Rattle.records.proofs.Lists.{map-take}
-use Rattle.records.specs.Remembered.{lookup, without, after, remembered}
+use Rattle.records.specs.Remembered.{lookup, without, after}
 
 -- keys mapped, values as they are
 abbrev pub mapped : {J K A : Type 0} → (J → K) → List (J × A) → List (K × A)
@@ -14,7 +14,7 @@ mapped f = map (λ e. (f (e .0), e .1))
 
 module _ {J K : Type 0} (decJ : Discrete J) (decK : Discrete K) (f : J → K) (Legal : J → Type 0) (injective : (j k : J) → Legal j → Legal k → f j ≡ f k → j ≡ k) where
   module _ {A : Type 0} (j : J) (g : Legal j) where
-    lookup-mapped : (l : List (J × A)) → All (λ e. Legal (e .0)) l → lookup decK (f j) (mapped f l) ≡ lookup decJ j l
+    pub lookup-mapped : (l : List (J × A)) → All (λ e. Legal (e .0)) l → lookup decK (f j) (mapped f l) ≡ lookup decJ j l
     lookup-mapped [] a = refl
     lookup-mapped (e ∷ l) a =
         by-cases (decJ j (e .0))
@@ -31,21 +31,8 @@ module _ {J K : Type 0} (decJ : Discrete J) (decK : Discrete K) (f : J → K) (L
         simp if-neg (ap (λ (m : List (K × A)). (f (e .0), e .1) ∷ m) (without-mapped l (a .1))))
 
   module _ {W I : Type 0} (n : ℕ) (fresh : I → W) (step : W → I → W) where
-    touch-mapped : (l : List (J × W)) (x : J × I) → All (λ e. Legal (e .0)) l → Legal (x .0)
+    pub touch-mapped : (l : List (J × W)) (x : J × I) → All (λ e. Legal (e .0)) l → Legal (x .0)
         → touch decK n fresh step (mapped f l) (f (x .0), x .1) ≡ mapped f (touch decJ n fresh step l x)
     touch-mapped l x a g =
         rw (lookup-mapped (x .0) g l a, without-mapped (x .0) g l a)
         (sym (map-take (λ e. (f (e .0), e .1)) n ((x .0, after fresh step (lookup decJ (x .0) l) (x .1)) ∷ without decJ (x .0) l)))
-
-    touched-mapped : (h : List (J × I)) (l : List (J × W)) → All (λ e. Legal (e .0)) l → All (λ x. Legal (x .0)) h
-        → foldl (touch decK n fresh step) (mapped f l) (mapped f h) ≡ mapped f (foldl (touch decJ n fresh step) l h)
-    touched-mapped [] l a g = refl
-    touched-mapped (x ∷ h) l a g =
-        ap (λ (m : List (K × W)). foldl (touch decK n fresh step) m (mapped f h)) (touch-mapped l x a (g .0))
-        ∙ touched-mapped h (touch decJ n fresh step l x) (all-take _ n _ (g .0, all-without decJ _ (x .0) l a)) (g .1)
-
-    -- a history, its earliest frame first
-    pub remembered-mapped : (h : List (J × I)) → All (λ x. Legal (x .0)) h
-        → remembered decK n fresh step (reverse (mapped f h)) ≡ mapped f (remembered decJ n fresh step (reverse h))
-    remembered-mapped h g =
-        sym (by-last-use decK n fresh step (mapped f h)) ∙ touched-mapped h [] tt g ∙ ap (mapped f) (by-last-use decJ n fresh step h)

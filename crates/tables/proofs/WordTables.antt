@@ -38,7 +38,7 @@ slot-same {A} i x y z e =
     (λ h. ap (λ (w : A). cond (ltb i 16) w z) (e h))
     (λ n. let b = le-ltb i 16 (omega arith) in cond-no _ _ b ∙ sym (cond-no _ _ b))
 
-word-same : (t u : List ℕ) (column i : ℕ) → (i < 16 → getD u (column + i) 0 ≡ getD t (column + i) 0) → wordOf u column i ≡ wordOf t column i
+pub word-same : (t u : List ℕ) (column i : ℕ) → (i < 16 → getD u (column + i) 0 ≡ getD t (column + i) 0) → wordOf u column i ≡ wordOf t column i
 unfolding wordOf
 word-same t u column i e = slot-same i (getD u (column + i) 0) (getD t (column + i) 0) 0 e
 
@@ -54,10 +54,10 @@ module _ (t : List ℕ) (s : ℕ) (h : s < 16) where
   pub length-word : (column v : ℕ) → length (wordSet t column s v) ≡ length t
   length-word column v = ap length (word-set column v) ∙ length-set t (column + s) v
 
-  word-out : (column v x : ℕ) → x ≢ column + s → getD (wordSet t column s v) x 0 ≡ getD t x 0
+  pub word-out : (column v x : ℕ) → x ≢ column + s → getD (wordSet t column s v) x 0 ≡ getD t x 0
   word-out column v x o = rw (word-set column v) (getD-set-other t (column + s) x v 0 o)
 
-  word-in : (column v : ℕ) → column + s < length t → getD (wordSet t column s v) (column + s) 0 ≡ v
+  pub word-in : (column v : ℕ) → column + s < length t → getD (wordSet t column s v) (column + s) 0 ≡ v
   word-in column v l = rw (word-set column v) (getD-set-same t (column + s) v 0 l)
 
 -- ---- the words of a value
@@ -210,7 +210,7 @@ module _ {K W : Type 0} (keys : KeyColumns K) (L : KeyLaws keys) (code : Coded W
 
 -- ---- by number
 
-pub numberLaws : KeyLaws numbered
+abbrev pub numberLaws : KeyLaws numbered
 numberLaws =
     record {
       Legal = λ k. Unit {0};
@@ -255,7 +255,7 @@ module _ (t k : List ℕ) (i : ℕ) (h : i < 16) where
           let e : j + 2 ≡ suc (suc j) = omega arith in
           tabulate-at (nameAt t i) 8 j 0 y ∙ name-at j ∙ w j y ∙ ap (λ (x : ℕ). getD k x 0) e
 
-  key-matched : length k ≡ 10 → (hasKey t k i ≡ true) ↔ (k ≡ keyAt t i)
+  pub key-matched : length k ≡ 10 → (hasKey t k i ≡ true) ↔ (k ≡ keyAt t i)
   key-matched g = (
     λ e. let m = has-key t k i e in sym (key-is g (m .number) (m .size) (m .word)),
     λ e.
@@ -266,7 +266,7 @@ module _ (t k : List ℕ) (i : ℕ) (h : i < 16) where
   )
 
 -- a key is the same where its words are
-key-same : (t u : List ℕ) (i : ℕ) → (i < 16 → getD u (16 + i) 0 ≡ getD t (16 + i) 0) → (i < 16 → getD u (32 + i) 0 ≡ getD t (32 + i) 0)
+pub key-same : (t u : List ℕ) (i : ℕ) → (i < 16 → getD u (16 + i) 0 ≡ getD t (16 + i) 0) → (i < 16 → getD u (32 + i) 0 ≡ getD t (32 + i) 0)
     → ((j : ℕ) → i < 16 → j < 8 → getD u (48 + i * 8 + j) 0 ≡ getD t (48 + i * 8 + j) 0) → keyAt u i ≡ keyAt t i
 key-same t u i a b w =
     let p = word-same t u 16 i a in
@@ -286,7 +286,7 @@ module _ (t : List ℕ) (s : ℕ) (k : List ℕ) (h : s < 16) where
   unfolding keyStored
   stored-is = cond-yes _ _ (lt-ltb s 16 h)
 
-  key-length : length (keyStored t s k) ≡ length t
+  pub key-length : length (keyStored t s k) ≡ length t
   key-length = ap length stored-is ∙ length-overwritten numbersSet (λ j. getD k (j + 2) 0) (48 + s * 8) 8 ∙ numbers-length
 
   numbers-out : (x : ℕ) → x ≢ 16 + s → x ≢ 32 + s → getD numbersSet x 0 ≡ getD t x 0
@@ -295,10 +295,10 @@ module _ (t : List ℕ) (s : ℕ) (k : List ℕ) (h : s < 16) where
   name-out : (x : ℕ) → ((j : ℕ) → j < 8 → x ≢ 48 + s * 8 + j) → getD (keyStored t s k) x 0 ≡ getD numbersSet x 0
   name-out x o = rw stored-is (overwritten-out numbersSet (48 + s * 8) (λ j. getD k (j + 2) 0) 8 x o)
 
-  key-out : (x : ℕ) → x ≢ 16 + s → x ≢ 32 + s → ((j : ℕ) → j < 8 → x ≢ 48 + s * 8 + j) → getD (keyStored t s k) x 0 ≡ getD t x 0
+  pub key-out : (x : ℕ) → x ≢ 16 + s → x ≢ 32 + s → ((j : ℕ) → j < 8 → x ≢ 48 + s * 8 + j) → getD (keyStored t s k) x 0 ≡ getD t x 0
   key-out x a b o = name-out x o ∙ numbers-out x a b
 
-  key-here : 176 ≤ length t → length k ≡ 10 → keyAt (keyStored t s k) s ≡ k
+  pub key-here : 176 ≤ length t → length k ≡ 10 → keyAt (keyStored t s k) s ≡ k
   key-here z g =
       key-is (keyStored t s k) k s h g
       (name-out (16 + s) (λ j l q. omega arith)
@@ -308,14 +308,14 @@ module _ (t : List ℕ) (s : ℕ) (k : List ℕ) (h : s < 16) where
       ∙ getD-set-same (set t (16 + s) (getD k 0 0)) (32 + s) (getD k 1 0) 0 (simp length-set (omega arith)))
       (λ j l. rw stored-is (overwritten-in numbersSet (48 + s * 8) (λ j. getD k (j + 2) 0) 8 j l (omega (arith, numbers-length))))
 
-  key-other : (i : ℕ) → i ≢ s → keyAt (keyStored t s k) i ≡ keyAt t i
+  pub key-other : (i : ℕ) → i ≢ s → keyAt (keyStored t s k) i ≡ keyAt t i
   key-other i n =
       key-same t (keyStored t s k) i
       (λ l. key-out (16 + i) (λ q. n (omega arith)) (λ q. omega arith) (λ j m q. omega arith))
       (λ l. key-out (32 + i) (λ q. omega arith) (λ q. n (omega arith)) (λ j m q. omega arith))
       (λ j l m. key-out (48 + i * 8 + j) (λ q. omega arith) (λ q. omega arith) (λ x y q. n (omega arith)))
 
-pub nameLaws : KeyLaws named
+abbrev pub nameLaws : KeyLaws named
 nameLaws =
     record {
       Legal = λ k. length k ≡ 10;

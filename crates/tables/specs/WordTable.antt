@@ -25,6 +25,10 @@ named = record { matches = hasKey; stored = keyStored; values = 176 }
 abbrev pub numbered : KeyColumns ℕ
 numbered = record { matches = hasNumber; stored = numberStored; values = 32 }
 
+-- keys of another type, each of which stands for one of a kind, as a name for its ten words
+abbrev pub keyedBy : {J K : Type 0} → (J → K) → KeyColumns K → KeyColumns J
+keyedBy key keys = record { matches = λ t j. keys .matches t (key j); stored = λ t i j. keys .stored t i (key j); values = keys .values }
+
 -- how a value is kept: as the words of so many columns, and read back from them
 pub record Coded (W : Type 0) : Type 0 where
   pub count : ℕ
