@@ -21,11 +21,12 @@ use Rattle.records.specs.Remembered.{without, after}
 use Rattle.tables.proofs.NamedLaws.{name-decides, has-key}
 use Rattle.tables.proofs.OrderLaws.{length-used, used-rank, used-out, length-forgotten, forgotten-rank, forgotten-out}
 use Rattle.tables.proofs.RankTable.{Table, Represents, represents-new, represents-forgotten}
+use Rattle.tables.specs.declared.place.Place.{Place}
 use Rattle.tables.specs.Column.{wordOf, wordSet}
 use Rattle.tables.specs.Named.{hasKey, findKey, keyStored, keyEntered}
 use Rattle.tables.specs.Numbered.{findNumber, numberStored, numberEntered}
 use Rattle.tables.specs.Order.{rankOf, inUse, usedRank, usedSlot, forgottenSlot, noEntries}
-use Rattle.tables.specs.Place.{placeAt, entered, ifKnown}
+use Rattle.tables.specs.Place.{Entered, placeAt, entered, ifKnown}
 use Rattle.tables.specs.Table.{slotOf, valueAt, valueOf, stepped}
 use Rattle.tables.specs.WordTable.{KeyColumns, named, numbered, Coded, valueWord, valueSet, wordTable}
 
@@ -193,20 +194,21 @@ module _ {K W : Type 0} (keys : KeyColumns K) (L : KeyLaws keys) (code : Coded W
         let q = code .same _ _ (λ j l. word-same t (forgottenSlot t s) (j * 16 + keys .values) i (λ g. forgotten-out t s h u _ (omega (arith, L .behind)))) in
         λ x. (p x, q x))
 
-    -- the value that is read where a frame was entered is what the table had of its key
-    pub value-entered : (k : K)
-        → (let e = entered (λ t s. keys .stored t s k) t (placeAt (rankOf t) (slotOf (wordTable keys code) t k)) in
-        valueOf (wordTable keys code) t k ≡ ifKnown (e .place .known) (code .read (valueWord (e .words) (keys .values) (e .place .slot))))
-    value-entered k = go (searched (λ i. keys .matches t k i && inUse (rankOf t) i) 0 16)
-      where
-        go : {f : Found} → Searched (λ i. keys .matches t k i && inUse (rankOf t) i) 0 16 f
-            → (let e = entered (λ t s. keys .stored t s k) t (placeAt (rankOf t) f) in
-            valueAt (wordTable keys code) t f ≡ ifKnown (e .place .known) (code .read (valueWord (e .words) (keys .values) (e .place .slot))))
-        go (hit s h p) =
-            ap some (code .same _ _ (λ j l.
-            sym (word-same t (usedSlot (keys .stored t s k) s) (j * 16 + keys .values) s (λ g.
-            used-out (keys .stored t s k) s h _ (omega (arith, L .behind)) ∙ L .stored-values t s k h _ (omega arith)))))
-        go (miss p) = refl
+module _ {K W : Type 0} (keys : KeyColumns K) (L : KeyLaws keys) (code : Coded W) (t : List ℕ) where
+  -- the value that is read where a frame was entered is what the table had of its key
+  pub value-entered : (k : K)
+      → (let e = entered (λ t s. keys .stored t s k) t (placeAt (rankOf t) (slotOf (wordTable keys code) t k)) in
+      valueOf (wordTable keys code) t k ≡ ifKnown (e .place .known) (code .read (valueWord (e .words) (keys .values) (e .place .slot))))
+  value-entered k = go (searched (λ i. keys .matches t k i && inUse (rankOf t) i) 0 16)
+    where
+      go : {f : Found} → Searched (λ i. keys .matches t k i && inUse (rankOf t) i) 0 16 f
+          → (let e = entered (λ t s. keys .stored t s k) t (placeAt (rankOf t) f) in
+          valueAt (wordTable keys code) t f ≡ ifKnown (e .place .known) (code .read (valueWord (e .words) (keys .values) (e .place .slot))))
+      go (hit s h p) =
+          ap some (code .same _ _ (λ j l.
+          sym (word-same t (usedSlot (keys .stored t s k) s) (j * 16 + keys .values) s (λ g.
+          used-out (keys .stored t s k) s h _ (omega (arith, L .behind)) ∙ L .stored-values t s k h _ (omega arith)))))
+      go (miss p) = refl
 
 -- ---- by number
 
@@ -340,18 +342,36 @@ namedTable = table named nameLaws
 abbrev pub numberedTable : {W : Type 0} → Coded W → Table ℕ W
 numberedTable = table numbered numberLaws
 
--- a frame entered, and its value set in the slot that it used, is a step of the table
-module _ {W I : Type 0} (code : Coded W) (fresh : I → W) (step : W → I → W) (t : List ℕ) (i : I) where
-  pub key-stepped : (k : List ℕ)
-      → (let e = keyEntered t k in
-      valueSet (e .words) 176 (e .place .slot) (code .words (after fresh step (valueOf (wordTable named code) t k) i))
-      ≡ stepped (wordTable named code) fresh step t k i)
-  unfolding keyEntered findKey
-  key-stepped k = refl
+-- ---- a check: a frame entered, its value read, and the value that follows set in the slot that it used
 
-  pub number-stepped : (k : ℕ)
-      → (let e = numberEntered t k in
-      valueSet (e .words) 32 (e .place .slot) (code .words (after fresh step (valueOf (wordTable numbered code) t k) i))
-      ≡ stepped (wordTable numbered code) fresh step t k i)
+module _ {W : Type 0} (code : Coded W) (t : List ℕ) {words : List ℕ} {place : Place} where
+  -- the value that is read is what the table had of the key
+  pub key-value : (k : List ℕ) → record { words = words; place = place } ≡ keyEntered t k
+      → ifKnown (place .known) (code .read (valueWord words 176 (place .slot))) ≡ valueOf (wordTable named code) t k
+  unfolding keyEntered findKey
+  key-value k e =
+      ap (λ (x : Entered). ifKnown (x .place .known) (code .read (valueWord (x .words) 176 (x .place .slot)))) e ∙ sym (value-entered named nameLaws code t k)
+
+  pub number-value : (k : ℕ) → record { words = words; place = place } ≡ numberEntered t k
+      → ifKnown (place .known) (code .read (valueWord words 32 (place .slot))) ≡ valueOf (wordTable numbered code) t k
   unfolding numberEntered findNumber
-  number-stepped k = refl
+  number-value k e =
+      ap (λ (x : Entered). ifKnown (x .place .known) (code .read (valueWord (x .words) 32 (x .place .slot)))) e ∙ sym (value-entered numbered numberLaws code t k)
+
+  -- and the table is then one frame further
+  module _ {I : Type 0} (fresh : I → W) (step : W → I → W) (i : I) {w : W} {out : List ℕ} where
+    pub key-stepped : (k : List ℕ) → record { words = words; place = place } ≡ keyEntered t k
+        → w ≡ after fresh step (valueOf (wordTable named code) t k) i → out ≡ valueSet words 176 (place .slot) (code .words w)
+        → out ≡ stepped (wordTable named code) fresh step t k i
+    unfolding keyEntered findKey
+    key-stepped k e v o =
+        o ∙ ap (λ (x : Entered). valueSet (x .words) 176 (x .place .slot) (code .words w)) e
+        ∙ ap (λ (x : W). valueSet (keyEntered t k .words) 176 (keyEntered t k .place .slot) (code .words x)) v
+
+    pub number-stepped : (k : ℕ) → record { words = words; place = place } ≡ numberEntered t k
+        → w ≡ after fresh step (valueOf (wordTable numbered code) t k) i → out ≡ valueSet words 32 (place .slot) (code .words w)
+        → out ≡ stepped (wordTable numbered code) fresh step t k i
+    unfolding numberEntered findNumber
+    number-stepped k e v o =
+        o ∙ ap (λ (x : Entered). valueSet (x .words) 32 (x .place .slot) (code .words w)) e
+        ∙ ap (λ (x : W). valueSet (numberEntered t k .words) 32 (numberEntered t k .place .slot) (code .words x)) v
