@@ -32,6 +32,10 @@ module _ {K A : Type 0} where
   abbrev pub Distinct : List (K × A) → Type 0
   Distinct = Pairwise (λ e f. e .0 ≢ f .0)
 
+  pub all-weaker : (P Q : K × A → Type 0) → ((x : K × A) → P x → Q x) → (l : List (K × A)) → All P l → All Q l
+  all-weaker P Q e [] a = tt
+  all-weaker P Q e (x ∷ l) a = (e x (a .0), all-weaker P Q e l (a .1))
+
   pub all-take : (P : K × A → Type 0) (n : ℕ) (l : List (K × A)) → All P l → All P (take n l)
   all-take P zero l a = tt
   all-take P (suc n) [] a = tt

@@ -12,7 +12,7 @@ use borrow.Author.Tests.{lt-ltb, le-ltb, eq-eqb, ne-eqb, eqb-true}
 use lib.Dec.{eqb, ltb}
 use lib.ListN.{length, getD, set, drop, List·getD-append, length-append, length-set, drop-of-length-le}
 use lib.Seq.{drop-cons, set-at, set-out, set-getD, getD-at, getD-take, getD-set-same, getD-set-other, length-take-le, ext-getD}
-use Rattle.records.proofs.Booleans.{cond-yes, and-true, and-false, and-both}
+use Rattle.records.proofs.Booleans.{cond-yes, and-true, and-false, and-no, and-both}
 use Rattle.records.specs.declared.name.Names.{Names}
 use Rattle.records.specs.Name.{validLen, nameOf, tabulate, octetAt, padded, agree, overwritten, sameOctets, sameName, octetsStored, nameStored}
 
@@ -24,6 +24,15 @@ module _ (f g : ℕ → ℕ) (i : ℕ) where
   pub agree-more : f i ≡ g i → agree f g (i + 1) ≡ agree f g i
   unfolding agree
   agree-more e = rw (add-one, eq-eqb (f i) (g i) e) (and-true (agree f g i))
+
+-- f and g do not agree where one place differs
+pub agree-no : (f g : ℕ → ℕ) (n k : ℕ) → k < n → (f k ≡ g k → ⊥) → agree f g n ≡ false
+unfolding agree
+agree-no f g zero k h d = absurd (not-suc-le-zero h)
+agree-no f g (suc n) k h d =
+    ⊎-elim (λ e. rw (ne-eqb (f n) (g n) (λ q. d (rw e q))) (and-false (agree f g n)))
+    (λ l. and-no (eqb (f n) (g n)) (agree-no f g n k l d))
+    (eq-or-lt-of-le (le-of-suc-le-suc h))
 
 pub length-tabulate : (f : ℕ → ℕ) (n : ℕ) → length (tabulate f n) ≡ n
 unfolding tabulate

@@ -2,7 +2,7 @@
 use Prim.Native.Nat.{ℕ, zero, suc, _+_, _≤_, _<_, _-_}
 use mathlib.Core.Bool.{Bool, true, false, cond}
 use mathlib.Core.Logic.{by-cases}
-use mathlib.Core.Path.{_≡_, refl}
+use mathlib.Core.Path.{_≡_, refl, sym, _∙_}
 use native.Mathlib.Decide.{ℕ-discrete}
 use native.Mathlib.Numerals.{add-one, unary-clauses}
 use native.Mathlib.Omega.{arith}
@@ -59,3 +59,17 @@ searched-before test i (suc n) s q j a b = go (test i) refl q (searched-before t
         → (firstFrom test (suc i) n ≡ At s → (k : ℕ) → suc i ≤ k → k < s → test k ≡ false) → test j ≡ false
     go true e r ih = let z : i ≡ s = cc in absurd (omega arith)
     go false e r ih = by-cases (ℕ-discrete j i) (λ p. rw p e) (λ p. ih r j (omega arith) b)
+
+-- a slot that is found is one of those searched, and passes the test
+pub found-has : (test : ℕ → Bool) (n : ℕ) {f : Found} {i : ℕ} → f ≡ firstFrom test 0 n → f ≡ At i → (i < n) × (test i ≡ true)
+found-has test n {i = i} s e = go (searched test 0 n) (sym s ∙ e)
+  where
+    go : {f : Found} → Searched test 0 n f → f ≡ At i → (i < n) × (test i ≡ true)
+    go (hit j h p) q = let same : j ≡ i = cc in (omega arith, rw (← same) p)
+    go (miss h) q = let z : _≡_ {A = ℕ} 0 1 = cc in absurd (omega arith)
+
+-- a search goes by the slots that it passes
+pub first-same : (f g : ℕ → Bool) (i n : ℕ) → ((j : ℕ) → j < i + n → f j ≡ g j) → firstFrom f i n ≡ firstFrom g i n
+unfolding firstFrom
+first-same f g i zero e = refl
+first-same f g i (suc n) e = rw (e i (omega arith), first-same f g (suc i) n (λ j l. e j (omega arith)))

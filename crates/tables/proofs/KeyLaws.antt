@@ -12,7 +12,8 @@ use lib.ListN.{length, getD, set, replicate, List·getD-eq-default}
 use lib.Seq.{getD-take, ext-getD}
 use Rattle.records.proofs.Booleans.{cond-yes, cond-no}
 use Rattle.records.proofs.NameLaws.{tabulate-at, tabulate-same, padded-at, length-name}
-use Rattle.records.specs.Legal.{Octets}
+use Rattle.records.proofs.OctetLaws.{octets-take}
+use Rattle.records.specs.Legal.{Octets, OctetArray}
 use Rattle.records.specs.Name.{validLen, nameOf, tabulate, octetAt, padded, overwritten}
 use Rattle.tables.specs.Key.{packed, nameWord, summed, keyOf}
 
@@ -53,9 +54,9 @@ module _ (octets : List ℕ) (len : ℕ) (size : length octets ≡ 64) where
       (λ l. cond-yes _ _ (lt-ltb k (validLen len) l) ∙ sym (getD-take (validLen len) octets k 0 l))
       (λ l. cond-no _ _ (le-ltb k (validLen len) (omega arith)) ∙ sym (List·getD-eq-default (nameOf octets len) 0 {n = k} (omega (arith, length-name octets len size))))
 
-  word-same : (k : ℕ) → k < 8 → packed (λ j. octetAt (padded octets (validLen len)) (k * 8 + j)) 8 ≡ nameWord (nameOf octets len) k
+  name-word : (k : ℕ) → k < 8 → packed (λ j. octetAt (padded octets (validLen len)) (k * 8 + j)) 8 ≡ nameWord (nameOf octets len) k
   unfolding nameWord
-  word-same k h = packed-same _ _ 8 (λ j l. octet-same (k * 8 + j) (omega arith))
+  name-word k h = packed-same _ _ 8 (λ j l. octet-same (k * 8 + j) (omega arith))
 
   pub key-of-frame : (number : ℕ) {sum valid : ℕ} {name key : List ℕ} → valid ≡ validLen len → name ≡ padded octets valid
       → sum ≡ summed number (λ k. packed (λ j. octetAt name (k * 8 + j)) 8) 8 → key ≡ overwritten (replicate 10 0) 2 (λ k. packed (λ j. octetAt name (k * 8 + j)) 8) 8
@@ -64,7 +65,7 @@ module _ (octets : List ℕ) (len : ℕ) (size : length octets ≡ 64) where
   key-of-frame number {sum} {valid} {name} v n s e =
       let f : ℕ → ℕ = λ k. packed (λ j. octetAt name (k * 8 + j)) 8 in
       let each : (k : ℕ) → k < 8 → f k ≡ nameWord (nameOf octets len) k = λ k h.
-      ap (λ (o : List ℕ). packed (λ j. octetAt o (k * 8 + j)) 8) (n ∙ ap (padded octets) v) ∙ word-same k h in
+      ap (λ (o : List ℕ). packed (λ j. octetAt o (k * 8 + j)) 8) (n ∙ ap (padded octets) v) ∙ name-word k h in
       let p = s ∙ summed-same number f (nameWord (nameOf octets len)) 8 each in
       let q = v ∙ sym (length-name octets len size) in
       let r = tabulate-same f (nameWord (nameOf octets len)) 8 each in
@@ -115,3 +116,12 @@ module _ (m n : ℕ) (a b : List ℕ) (la : LegalKey m a) (lb : LegalKey n b) wh
 
   pub key-equal : (keyOf m a ≡ keyOf n b) ↔ ((m ≡ n) × (a ≡ b))
   key-equal = (key-injective, λ e. rw (e .0, e .1))
+
+-- the name that a frame states is such a name, so keys of frames are equal exactly when numbers and names are
+pub legal-name : (number : ℕ) (octets : List ℕ) (len : ℕ) → number < 2 ^ 64 → OctetArray 64 octets → LegalKey number (nameOf octets len)
+legal-name number octets len w a =
+    record { width = w; short = omega (arith, length-name octets len (a .size)); octets = octets-take octets (a .octets) (validLen len) }
+
+module _ (m n : ℕ) (a b : List ℕ) (i j : ℕ) (wm : m < 2 ^ 64) (wn : n < 2 ^ 64) (oa : OctetArray 64 a) (ob : OctetArray 64 b) where
+  pub frame-keys-equal : (keyOf m (nameOf a i) ≡ keyOf n (nameOf b j)) ↔ ((m ≡ n) × (nameOf a i ≡ nameOf b j))
+  frame-keys-equal = key-equal m n (nameOf a i) (nameOf b j) (legal-name m a i wm oa) (legal-name n b j wn ob)

@@ -1,22 +1,24 @@
--- Tables by keys that stand for others, as a name for its ten words: such a table holds the list that its history leaves remembered and answers as
+-- Tables under keys that are mapped to their own, as names to their ten words: such a table holds the list that its history leaves remembered and answers as
 -- that list, so two histories leave tables that answer alike exactly when they leave equal lists remembered, and others are told apart by at most
 -- sixteen frames. For histories of any length.
 use Prim.Native.Nat.{ℕ, _≤_, _<_}
 use mathlib.Core.List.{List, [], _∷_, foldl, reverse}
+use mathlib.Core.Bool.{true}
 use mathlib.Core.Logic.{_≢_, _↔_}
 use mathlib.Core.Option.{Option}
 use mathlib.Core.Path.{_≡_, refl, sym, _∙_}
 use lib.ListN.{length}
 use Rattle.records.proofs.ByLastUse.{touch, by-last-use}
 use Rattle.records.proofs.Distinguish.{outputs, answers, Observable, Legal, left, equal-answers, distinguish-histories, unequal-answers}
-use Rattle.records.proofs.KeyedLists.{All, all-take, all-without}
+use Rattle.records.proofs.KeyedLists.{All, all-weaker, all-take, all-without}
 use Rattle.records.specs.Remembered.{lookup, without, after, remembered}
-use Rattle.tables.proofs.MappedKeys.{mapped, lookup-mapped, touch-mapped}
-use Rattle.tables.proofs.RankTable.{Table, rank, Represents, represents-new, value-lookup, next, represents-stepped}
+use Rattle.tables.proofs.MappedKeys.{mapped, lookup-mapped, without-mapped, touch-mapped}
+use Rattle.tables.proofs.RankTable.{Table, rank, entry, Represents, represents-forgotten, represents-none, value-lookup, next, represents-stepped}
+use Rattle.tables.specs.Order.{inUse, forgottenRank}
 use Rattle.tables.specs.Table.{valueOf}
 
--- keys that stand for those of a table, and are told apart by them
-pub record Keying (J : Type 0) {K W : Type 0} (B : Table K W) : Type 1 where
+-- an injective map into the keys of a table
+pub record KeyMap (J : Type 0) {K W : Type 0} (B : Table K W) : Type 1 where
   pub decide : Discrete J
   pub decideKey : Discrete K
   pub key : J → K
@@ -24,14 +26,14 @@ pub record Keying (J : Type 0) {K W : Type 0} (B : Table K W) : Type 1 where
   pub legal : (j : J) → Legal j → B .Legal (key j)
   pub injective : (j k : J) → Legal j → Legal k → key j ≡ key k → j ≡ k
 
-module _ {J K W : Type 0} {B : Table K W} (N : Keying J B) where
-  -- the table represents the list under the keys that stand for its own
+module _ {J K W : Type 0} {B : Table K W} (N : KeyMap J B) where
+  -- the table represents the list with its keys mapped
   pub record Holds (t : B .State) (l : List (J × W)) : Type 0 where
     pub represents : Represents B t (mapped (N .key) l)
     pub legal : All (λ e. N .Legal (e .0)) l
 
   pub holds-none : (t : B .State) → B .Sized t → ((i : ℕ) → i < 16 → rank B t i ≡ 16) → Holds t []
-  holds-none t z e = record { represents = represents-new B t z e; legal = tt }
+  holds-none t z e = record { represents = represents-none B t z e; legal = tt }
 
   -- what the table has of a key is what the list has
   pub value-held : {t : B .State} {l : List (J × W)} → Holds t l → (j : J) → N .Legal j → valueOf (B .columns) t (N .key j) ≡ lookup (N .decide) j l
@@ -39,15 +41,26 @@ module _ {J K W : Type 0} {B : Table K W} (N : Keying J B) where
       value-lookup B (N .decideKey) (r .represents) (N .key j) (N .legal j g)
       ∙ lookup-mapped (N .decide) (N .decideKey) (N .key) (N .Legal) (N .injective) j g l (r .legal)
 
-module _ {J K W I : Type 0} {B : Table K W} (N : Keying J B) (fresh : I → W) (step : W → I → W) where
+  -- an entry forgotten goes from the list: the ranks close up, and the entries of the slots are as before
+  pub holds-forgotten : {t u : B .State} {l : List (J × W)} → Holds t l → (s : ℕ) → s < 16 → inUse (rank B t) s ≡ true → (j : J) → N .Legal j → B .key t s ≡ N .key j
+      → B .Sized u → ((i : ℕ) → i < 16 → rank B u i ≡ forgottenRank (rank B t) s i) → ((i : ℕ) → entry B u i ≡ entry B t i) → Holds u (without (N .decide) j l)
+  holds-forgotten {u = u} {l} r s h e j g k z f same = record {
+    represents = rw (
+      ← without-mapped (N .decide) (N .decideKey) (N .key) (N .Legal) (N .injective) j g l (r .legal),
+      ← k,
+    ) (represents-forgotten B (N .decideKey) (r .represents) s h e {u = u} z f same);
+    legal = all-without (N .decide) (λ e. N .Legal (e .0)) j l (r .legal);
+  }
+
+module _ {J K W I : Type 0} {B : Table K W} (N : KeyMap J B) (fresh : I → W) (step : W → I → W) where
   -- the table after a frame, a key and its input
   abbrev pub afterFrame : B .State → J × I → B .State
-  afterFrame t x = next B (N .decideKey) fresh step t (N .key (x .0), x .1)
+  afterFrame t x = next B fresh step t (N .key (x .0), x .1)
 
   pub holds-after : {t : B .State} {l : List (J × W)} → Holds N t l → (x : J × I) → N .Legal (x .0) → Holds N (afterFrame t x) (touch (N .decide) 16 fresh step l x)
   holds-after {l = l} r x g = record {
     represents = rw (← touch-mapped (N .decide) (N .decideKey) (N .key) (N .Legal) (N .injective) 16 fresh step l x (r .legal) g)
-        (represents-stepped B (N .decideKey) fresh step (r .represents) (N .key (x .0), x .1) (N .legal (x .0) g));
+        (represents-stepped B fresh step (N .decideKey) (r .represents) (N .key (x .0), x .1) (N .legal (x .0) g));
     legal =
         all-take (λ e. N .Legal (e .0)) 16 ((x .0, after fresh step (lookup (N .decide) (x .0) l) (x .1)) ∷ without (N .decide) (x .0) l)
         (g, all-without (N .decide) (λ e. N .Legal (e .0)) (x .0) l (r .legal));
@@ -63,7 +76,7 @@ module _ {J K W I : Type 0} {B : Table K W} (N : Keying J B) (fresh : I → W) (
       → Holds N (foldl afterFrame t h) (remembered (N .decide) 16 fresh step (reverse h))
   holds-remembered t z e h g = rw (← by-last-use (N .decide) 16 fresh step h) (holds-history (holds-none N t z e) h g)
 
-module _ {J K W I A : Type 0} {B : Table K W} (N : Keying J B) (fresh : I → W) (step : W → I → W) (ans : Option W → I → A) where
+module _ {J K W I A : Type 0} {B : Table K W} (N : KeyMap J B) (fresh : I → W) (step : W → I → W) (ans : Option W → I → A) where
   -- the answers to frames, each from what the table has of its key
   abbrev pub tableAnswers : B .State → List (J × I) → List A
   tableAnswers = outputs (λ t x. ans (valueOf (B .columns) t (N .key (x .0))) (x .1)) (afterFrame N fresh step)
@@ -74,13 +87,8 @@ module _ {J K W I A : Type 0} {B : Table K W} (N : Keying J B) (fresh : I → W)
   table-answers r [] g = refl
   table-answers r (x ∷ f) g = rw (value-held N r (x .0) (g .0), table-answers (holds-after N fresh step r x (g .0)) f (g .1))
 
-module _ {J I : Type 0} {P Q : J × I → Type 0} (e : (x : J × I) → P x → Q x) where
-  all-weaker : (h : List (J × I)) → All P h → All Q h
-  all-weaker [] a = tt
-  all-weaker (x ∷ h) a = (e x (a .0), all-weaker h (a .1))
-
 -- from a table without entries, for answers that tell values apart
-module _ {J K W I A : Type 0} {B : Table K W} (N : Keying J B) (fresh : I → W) (step : W → I → W) (ans : Option W → I → A)
+module _ {J K W I A : Type 0} {B : Table K W} (N : KeyMap J B) (fresh : I → W) (step : W → I → W) (ans : Option W → I → A)
     (O : Observable (N .decide) 16 fresh step ans) (legal : (j : J) → O .Key j → N .Legal j)
     (t : B .State) (z : B .Sized t) (e : (i : ℕ) → i < 16 → rank B t i ≡ 16) where
   -- the answers to further frames after a history
@@ -92,7 +100,7 @@ module _ {J K W I A : Type 0} {B : Table K W} (N : Keying J B) (fresh : I → W)
   answers-remembered h f g g′ = table-answers N fresh step ans (holds-remembered N fresh step t z e h (keys h g)) f (keys f g′)
     where
       keys : (h : List (J × I)) → All (Legal O) h → All (λ x. N .Legal (x .0)) h
-      keys = all-weaker (λ x g. legal (x .0) (g .0))
+      keys = all-weaker (Legal O) (λ x. N .Legal (x .0)) (λ x g. legal (x .0) (g .0))
 
   module _ (h h′ : List (J × I)) (g : All (Legal O) h) (g′ : All (Legal O) h′) where
     -- equal lists remembered exactly when all further frames are answered alike

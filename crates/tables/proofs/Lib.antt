@@ -8,6 +8,7 @@ pub mod RankTable
 pub mod WordTables
 pub mod MappedKeys
 pub mod KeyedTables
-pub mod Keyings
+pub mod KeyMaps
 pub mod WrappingAgeHolds
 pub mod TableAges
+pub mod TableExample

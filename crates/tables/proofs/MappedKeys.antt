@@ -1,4 +1,4 @@
--- Lists by last use under keys that stand for others: a frame moves both alike.
+-- Lists by last use under mapped keys: a frame moves both alike.
 use Prim.Native.Nat.{ℕ}
 use mathlib.Core.List.{List, [], _∷_, map}
 use mathlib.Core.Logic.{by-cases, if-pos, if-neg}
@@ -21,7 +21,7 @@ module _ {J K : Type 0} (decJ : Discrete J) (decK : Discrete K) (f : J → K) (L
         (λ p. let q : f j ≡ f (e .0) = ap f p in simp if-pos)
         (λ p. let q : f j ≡ f (e .0) → ⊥ = λ q. p (injective j (e .0) g (a .0) q) in simp if-neg (lookup-mapped l (a .1)))
 
-    without-mapped : (l : List (J × A)) → All (λ e. Legal (e .0)) l → without decK (f j) (mapped f l) ≡ mapped f (without decJ j l)
+    pub without-mapped : (l : List (J × A)) → All (λ e. Legal (e .0)) l → without decK (f j) (mapped f l) ≡ mapped f (without decJ j l)
     without-mapped [] a = refl
     without-mapped (e ∷ l) a =
         by-cases (decJ j (e .0))

@@ -1,44 +1,27 @@
 -- Laws of tables by name: the ways that a comparison of keys goes, and that a slot that has a key is not changed by storing it.
-use Prim.Native.Nat.{ℕ, zero, suc, _+_, _*_, _≤_, _<_}
-use mathlib.Core.Bool.{Bool, true, false, _&&_}
+use Prim.Native.Nat.{ℕ, _+_, _*_, _≤_, _<_}
+use mathlib.Core.Bool.{Bool, true, false}
 use mathlib.Core.List.{List}
-use mathlib.Core.Logic.{by-cases}
 use mathlib.Core.Path.{_≡_, sym, ap, _∙_}
-use native.Mathlib.Decide.{ℕ-discrete}
-use native.Mathlib.Nat.{not-suc-le-zero}
-use native.Mathlib.Omega.{arith}
 use borrow.Author.Tests.{lt-ltb, le-ltb, eq-eqb, ne-eqb, eqb-true}
 use lib.Dec.{ltb, eqb}
 use lib.ListN.{getD, set}
 use lib.Seq.{set-getD}
-use Rattle.records.proofs.Booleans.{cond-yes, and-both, and-yes, and-no, and-false}
+use Rattle.records.proofs.Booleans.{cond-yes, and-both, and-yes, and-no}
 use Rattle.records.proofs.NameLaws.{agree-at, overwritten-again}
 use Rattle.records.specs.Name.{agree, overwritten}
-use Rattle.records.specs.declared.search.Found.{Found}
-use Rattle.records.specs.declared.search.Found.the-variants.{At, Nothing}
-use Rattle.tables.proofs.PlaceLaws.{found-has, entered-known, entered-new}
-use Rattle.tables.specs.Named.{hasKey, findKey, keyStored, keyEntered}
-use Rattle.tables.specs.Order.{rankOf, inUse, newSlot, usedSlot}
-
--- words do not agree where one differs
-pub agree-no : (f g : ℕ → ℕ) (n k : ℕ) → k < n → (f k ≡ g k → ⊥) → agree f g n ≡ false
-unfolding agree
-agree-no f g zero k h d = absurd (not-suc-le-zero h)
-agree-no f g (suc n) k h d =
-    by-cases (ℕ-discrete k n)
-    (λ e. rw (ne-eqb (f n) (g n) (λ q. d (rw e q))) (and-false (agree f g n)))
-    (λ e. and-no (eqb (f n) (g n)) (agree-no f g n k (omega arith) d))
+use Rattle.tables.specs.Named.{hasKey, keyStored}
 
 -- the ways that a comparison of keys goes
 module _ (t key : List ℕ) (slot : ℕ) where
-  pub key-far : 16 ≤ slot → false ≡ hasKey t key slot
+  pub key-outside : 16 ≤ slot → false ≡ hasKey t key slot
   unfolding hasKey
-  key-far h = sym (and-no _ (le-ltb slot 16 h))
+  key-outside h = sym (and-no _ (le-ltb slot 16 h))
 
   module _ (h : slot < 16) where
-    pub number-differs : (getD t (16 + slot) 0 ≡ getD key 0 0 → ⊥) → false ≡ hasKey t key slot
+    pub sum-differs : (getD t (16 + slot) 0 ≡ getD key 0 0 → ⊥) → false ≡ hasKey t key slot
     unfolding hasKey
-    number-differs d = sym (and-yes (lt-ltb slot 16 h) (and-no _ (ne-eqb (getD t (16 + slot) 0) (getD key 0 0) d)))
+    sum-differs d = sym (and-yes (lt-ltb slot 16 h) (and-no _ (ne-eqb (getD t (16 + slot) 0) (getD key 0 0) d)))
 
     module _ (e : getD t (16 + slot) 0 ≡ getD key 0 0) where
       pub length-differs : (getD t (32 + slot) 0 ≡ getD key 1 0 → ⊥) → false ≡ hasKey t key slot
@@ -56,7 +39,7 @@ module _ (t key : List ℕ) (slot : ℕ) where
 -- what a slot that has a key tells
 module _ (t key : List ℕ) (slot : ℕ) (e : hasKey t key slot ≡ true) where
   pub record HasKey : Type 0 where
-    pub number : getD t (16 + slot) 0 ≡ getD key 0 0
+    pub sum : getD t (16 + slot) 0 ≡ getD key 0 0
     pub size : getD t (32 + slot) 0 ≡ getD key 1 0
     pub word : (k : ℕ) → k < 8 → getD t (48 + slot * 8 + k) 0 ≡ getD key (k + 2) 0
 
@@ -66,7 +49,7 @@ module _ (t key : List ℕ) (slot : ℕ) (e : hasKey t key slot ≡ true) where
       let a = and-both (eqb (getD t (16 + slot) 0) (getD key 0 0)) _ (and-both (ltb slot 16) _ e .1) in
       let b = and-both (eqb (getD t (32 + slot) 0) (getD key 1 0)) _ (a .1) in
       record {
-        number = eqb-true (getD t (16 + slot) 0) (getD key 0 0) (a .0);
+        sum = eqb-true (getD t (16 + slot) 0) (getD key 0 0) (a .0);
         size = eqb-true (getD t (32 + slot) 0) (getD key 1 0) (b .0);
         word = agree-at _ _ 8 (b .1);
       }
@@ -75,22 +58,9 @@ module _ (t key : List ℕ) (slot : ℕ) (e : hasKey t key slot ≡ true) where
   pub key-again : slot < 16 → keyStored t slot key ≡ t
   unfolding keyStored
   key-again h =
-      let n = ap (λ (v : ℕ). set t (16 + slot) v) (sym (has-key .number)) ∙ set-getD t (16 + slot) 0 in
+      let n = ap (λ (v : ℕ). set t (16 + slot) v) (sym (has-key .sum)) ∙ set-getD t (16 + slot) 0 in
       let l = ap (λ (v : ℕ). set t (32 + slot) v) (sym (has-key .size)) ∙ set-getD t (32 + slot) 0 in
       cond-yes _ _ (lt-ltb slot 16 h)
       ∙ ap (λ (u : List ℕ). overwritten (set u (32 + slot) (getD key 1 0)) (48 + slot * 8) (λ k. getD key (k + 2) 0) 8) n
       ∙ ap (λ (u : List ℕ). overwritten u (48 + slot * 8) (λ k. getD key (k + 2) 0) 8) l
       ∙ overwritten-again t (48 + slot * 8) (λ k. getD key (k + 2) 0) 8 (has-key .word)
-
--- a frame of a key that a slot has, and of a new one
-module _ (t key : List ℕ) {found : Found} {out : List ℕ} (f : found ≡ findKey t key) where
-  pub key-known : {i : ℕ} → found ≡ At i → out ≡ usedSlot t i → record { words = out; place = record { slot = i; known = true } } ≡ keyEntered t key
-  unfolding findKey keyEntered
-  key-known {i} e u =
-      let b = found-has (λ j. hasKey t key j && inUse (rankOf t) j) f e in
-      rw f at (entered-known (λ t slot. keyStored t slot key) t e (key-again t key i (and-both (hasKey t key i) _ (b .1) .0) (b .0)) u)
-
-  pub key-new : {slot : ℕ} {u : List ℕ} → found ≡ Nothing → slot ≡ newSlot (rankOf t) → u ≡ keyStored t slot key → out ≡ usedSlot u slot
-      → record { words = out; place = record { slot = slot; known = false } } ≡ keyEntered t key
-  unfolding keyEntered
-  key-new e s u o = rw f at (entered-new (λ t slot. keyStored t slot key) t e s u o)

@@ -55,9 +55,9 @@ reranked-more t f i o e =
 -- ---- a use
 
 module _ (t : List ℕ) (s : ℕ) where
-  pub use-far : 16 ≤ s → t ≡ usedSlot t s
+  pub use-outside : 16 ≤ s → t ≡ usedSlot t s
   unfolding usedSlot
-  use-far h = sym (cond-no _ _ (le-ltb s 16 h))
+  use-outside h = sym (cond-no _ _ (le-ltb s 16 h))
 
   pub use-more : (i : ℕ) {v : ℕ} {out : List ℕ} → out ≡ overwritten t 0 (λ j. raised (rankOf t s) (rankOf t j)) i → v ≡ raised (rankOf t s) (rankOf out i)
       → set out i v ≡ overwritten t 0 (λ j. raised (rankOf t s) (rankOf t j)) (i + 1)
@@ -91,9 +91,9 @@ module _ (t : List ℕ) (s : ℕ) where
 -- ---- an entry forgotten
 
 module _ (t : List ℕ) (s : ℕ) where
-  pub forget-far : 16 ≤ s → t ≡ forgottenSlot t s
+  pub forget-outside : 16 ≤ s → t ≡ forgottenSlot t s
   unfolding forgottenSlot
-  forget-far h = sym (cond-no _ _ (and-no _ (le-ltb s 16 h)))
+  forget-outside h = sym (cond-no _ _ (and-no _ (le-ltb s 16 h)))
 
   pub forget-more : (i : ℕ) {v : ℕ} {out : List ℕ} → out ≡ overwritten t 0 (λ j. lowered (rankOf t s) (rankOf t j)) i → v ≡ lowered (rankOf t s) (rankOf out i)
       → set out i v ≡ overwritten t 0 (λ j. lowered (rankOf t s) (rankOf t j)) (i + 1)

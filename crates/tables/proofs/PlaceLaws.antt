@@ -1,32 +1,30 @@
--- Laws of the slot that a frame of a key uses: one that has the key, and one that a new key takes.
+-- Laws of the slot that a frame of a key uses, over the kind of key: one that has the key, and one that a new key takes.
 use Prim.Native.Nat.{ℕ, _<_}
-use mathlib.Core.Bool.{Bool, true, false}
+use mathlib.Core.Bool.{true, false, _&&_}
 use mathlib.Core.List.{List}
 use mathlib.Core.Path.{_≡_}
-use native.Mathlib.Omega.{arith}
-use Rattle.records.proofs.Booleans.{answered}
-use Rattle.records.proofs.SearchLaws.{Searched, hit, miss, searched}
+use Rattle.records.proofs.Booleans.{and-both}
+use Rattle.records.proofs.SearchLaws.{found-has}
 use Rattle.records.specs.declared.search.Found.{Found}
 use Rattle.records.specs.declared.search.Found.the-variants.{At, Nothing}
-use Rattle.records.specs.Search.{first}
-use Rattle.tables.specs.Order.{rankOf, newSlot, usedSlot}
-use Rattle.tables.specs.Place.{placeAt, entered}
+use Rattle.tables.specs.Order.{rankOf, inUse, newSlot, usedSlot}
+use Rattle.tables.specs.Place.{KeyColumns, found, entered}
 
--- a slot that a search finds is one of the sixteen, and passes the test
-pub found-has : (test : ℕ → Bool) {f : Found} {i : ℕ} → f ≡ first test → f ≡ At i → (i < 16) × (test i ≡ true)
-found-has test {i = i} s e = go (searched test 0 16) (answered s e)
-  where
-    go : {f : Found} → Searched test 0 16 f → f ≡ At i → (i < 16) × (test i ≡ true)
-    go (hit j h p) q = let same : j ≡ i = cc in (omega arith, rw (← same) p)
-    go (miss h) q = let z : _≡_ {A = ℕ} 0 1 = cc in absurd (omega arith)
+module _ {K : Type 0} (keys : KeyColumns K) (t : List ℕ) (k : K) {f : Found} (s : f ≡ found keys t k) where
+  -- a slot that is found is one of the sixteen, and has the key
+  pub found-key : {i : ℕ} → f ≡ At i → (i < 16) × (keys .matches t k i ≡ true)
+  unfolding found
+  found-key {i} e =
+      let b = found-has (λ j. keys .matches t k j && inUse (rankOf t) j) 16 s e in (b .0, and-both (keys .matches t k i) _ (b .1) .0)
 
-module _ (stored : List ℕ → ℕ → List ℕ) (t : List ℕ) {found : Found} {out : List ℕ} where
-  -- a known key: its slot has it already
-  pub entered-known : {i : ℕ} → found ≡ At i → stored t i ≡ t → out ≡ usedSlot t i
-      → record { words = out; place = record { slot = i; known = true } } ≡ entered stored t (placeAt (rankOf t) found)
-  entered-known f s u = rw (f, s, u)
+  -- a known key, whose slot is not changed by storing it
+  pub entered-known : ((i : ℕ) → i < 16 → keys .matches t k i ≡ true → keys .stored t i k ≡ t) → {i : ℕ} {out : List ℕ} → f ≡ At i → out ≡ usedSlot t i
+      → record { table = out; place = record { slot = i; known = true } } ≡ entered keys t k
+  unfolding entered
+  entered-known again {i} e u = let b = found-key e in rw (← s, e, again i (b .0) (b .1), u)
 
   -- a new key
-  pub entered-new : {slot : ℕ} {u : List ℕ} → found ≡ Nothing → slot ≡ newSlot (rankOf t) → u ≡ stored t slot → out ≡ usedSlot u slot
-      → record { words = out; place = record { slot = slot; known = false } } ≡ entered stored t (placeAt (rankOf t) found)
-  entered-new f s u o = rw (f, o, u, s)
+  pub entered-new : {slot : ℕ} {u out : List ℕ} → f ≡ Nothing → slot ≡ newSlot (rankOf t) → u ≡ keys .stored t slot k → out ≡ usedSlot u slot
+      → record { table = out; place = record { slot = slot; known = false } } ≡ entered keys t k
+  unfolding entered
+  entered-new e n u o = rw (← s, e, o, u, n)

@@ -20,14 +20,14 @@ use Rattle.records.proofs.SearchLaws.{Searched, hit, miss, searched, searched-b
 use Rattle.records.specs.Search.{firstFrom, slotOr}
 use Rattle.tables.specs.Order.{inUse, newSlot, raised, lowered, usedRank, forgottenRank}
 
--- slots, the latest used first
+-- slots, the latest used first, as keys of lists with nothing beside them
 abbrev pub Slots : Type 0
 Slots = List (ℕ × Unit {0})
 
--- the place of a slot among those from place p on; 16 if it is not there
-abbrev pub placeFrom : ℕ → ℕ → Slots → ℕ
-placeFrom p i [] = 16
-placeFrom p i (e ∷ o) = ite (ℕ-discrete i (e .0)) p (placeFrom (suc p) i o)
+-- the position of a slot among those from position p on; 16 if it is not there
+abbrev pub positionFrom : ℕ → ℕ → Slots → ℕ
+positionFrom p i [] = 16
+positionFrom p i (e ∷ o) = ite (ℕ-discrete i (e .0)) p (positionFrom (suc p) i o)
 
 abbrev pub lookSlot : ℕ → Slots → Option (Unit {0})
 lookSlot = lookup ℕ-discrete
@@ -35,27 +35,27 @@ lookSlot = lookup ℕ-discrete
 abbrev pub withoutSlot : ℕ → Slots → Slots
 withoutSlot = without ℕ-discrete
 
--- a place is no less than the first
-pub place-from : (p i : ℕ) (o : Slots) → p ≤ 16 → length o + p ≤ 16 → p ≤ placeFrom p i o
-place-from p i [] h n = h
-place-from p i (e ∷ o) h n =
-    by-cases (ℕ-discrete i (e .0)) (λ q. simp if-pos (omega arith)) (λ q. simp if-neg (omega (arith, place-from (suc p) i o (omega arith) (omega arith))))
+-- a position is no less than the first
+pub position-from : (p i : ℕ) (o : Slots) → p ≤ 16 → length o + p ≤ 16 → p ≤ positionFrom p i o
+position-from p i [] h n = h
+position-from p i (e ∷ o) h n =
+    by-cases (ℕ-discrete i (e .0)) (λ q. simp if-pos (omega arith)) (λ q. simp if-neg (omega (arith, position-from (suc p) i o (omega arith) (omega arith))))
 
--- a slot that is not there has place 16, and one that is there a place below
-place-absent : (p i : ℕ) (o : Slots) → lookSlot i o ≡ none → placeFrom p i o ≡ 16
-place-absent p i [] q = refl
-place-absent p i (e ∷ o) q =
-    by-cases (ℕ-discrete i (e .0)) (λ z. absurd (Option·none-ne-some tt (sym q ∙ simp if-pos))) (λ z. simp if-neg (place-absent (suc p) i o (simp if-neg at q)))
+-- a slot that is not there has position 16, and one that is there a position below
+position-absent : (p i : ℕ) (o : Slots) → lookSlot i o ≡ none → positionFrom p i o ≡ 16
+position-absent p i [] q = refl
+position-absent p i (e ∷ o) q =
+    by-cases (ℕ-discrete i (e .0)) (λ z. absurd (Option·none-ne-some tt (sym q ∙ simp if-pos))) (λ z. simp if-neg (position-absent (suc p) i o (simp if-neg at q)))
 
-place-there : (p i : ℕ) (o : Slots) → length o + p ≤ 16 → placeFrom p i o < 16 → lookSlot i o ≡ some tt
-place-there p i [] n h = absurd (omega arith)
-place-there p i (e ∷ o) n h =
-    by-cases (ℕ-discrete i (e .0)) (λ z. simp if-pos) (λ z. simp if-neg (place-there (suc p) i o (omega arith) (simp if-neg at h)))
+position-there : (p i : ℕ) (o : Slots) → length o + p ≤ 16 → positionFrom p i o < 16 → lookSlot i o ≡ some tt
+position-there p i [] n h = absurd (omega arith)
+position-there p i (e ∷ o) n h =
+    by-cases (ℕ-discrete i (e .0)) (λ z. simp if-pos) (λ z. simp if-neg (position-there (suc p) i o (omega arith) (simp if-neg at h)))
 
-pub place-in : (p i : ℕ) (o : Slots) → lookSlot i o ≡ some tt → placeFrom p i o < length o + p
-place-in p i [] q = absurd (Option·none-ne-some tt q)
-place-in p i (e ∷ o) q =
-    by-cases (ℕ-discrete i (e .0)) (λ z. simp if-pos (omega arith)) (λ z. simp if-neg (omega (arith, place-in (suc p) i o (simp if-neg at q))))
+pub position-in : (p i : ℕ) (o : Slots) → lookSlot i o ≡ some tt → positionFrom p i o < length o + p
+position-in p i [] q = absurd (Option·none-ne-some tt q)
+position-in p i (e ∷ o) q =
+    by-cases (ℕ-discrete i (e .0)) (λ z. simp if-pos (omega arith)) (λ z. simp if-neg (omega (arith, position-in (suc p) i o (simp if-neg at q))))
 
 raised-above : {old x : ℕ} → old ≤ x → raised old x ≡ x
 raised-above {old} {x} h = rw (le-ltb x old h)
@@ -77,28 +77,28 @@ lowered-free old = go (ltb old 16)
     go false = refl
 
 -- a use of slot s: the others that stood before it move up
-place-used : (p i s : ℕ) (o : Slots) → i ≢ s → Distinct o → length o + p ≤ 16 → placeFrom (suc p) i (withoutSlot s o) ≡ raised (placeFrom p s o) (placeFrom p i o)
-place-used p i s [] n d h = refl
-place-used p i s (e ∷ o) n d h =
+position-used : (p i s : ℕ) (o : Slots) → i ≢ s → Distinct o → length o + p ≤ 16 → positionFrom (suc p) i (withoutSlot s o) ≡ raised (positionFrom p s o) (positionFrom p i o)
+position-used p i s [] n d h = refl
+position-used p i s (e ∷ o) n d h =
     by-cases (ℕ-discrete s (e .0))
     (λ q.
     let m : i ≢ e .0 = λ z. n (z ∙ sym q) in
-    simp (if-pos, if-neg, without-absent ℕ-discrete s o (rw (← q) at (d .0))) (sym (raised-above (omega (arith, place-from (suc p) i o (omega arith) (omega arith))))))
+    simp (if-pos, if-neg, without-absent ℕ-discrete s o (rw (← q) at (d .0))) (sym (raised-above (omega (arith, position-from (suc p) i o (omega arith) (omega arith))))))
     (λ q. by-cases (ℕ-discrete i (e .0))
-    (λ z. simp (if-pos, if-neg) (sym (raised-below (omega (arith, place-from (suc p) s o (omega arith) (omega arith))))))
-    (λ z. simp if-neg (place-used (suc p) i s o n (d .1) (omega arith))))
+    (λ z. simp (if-pos, if-neg) (sym (raised-below (omega (arith, position-from (suc p) s o (omega arith) (omega arith))))))
+    (λ z. simp if-neg (position-used (suc p) i s o n (d .1) (omega arith))))
 
--- the slots of an order, the latest used first: their ranks are their places, and the others have rank 16
+-- the slots of an order, the latest used first: their ranks are their positions, and the others have rank 16
 pub record Order (rank : ℕ → ℕ) (o : Slots) : Type 0 where
   pub distinct : Distinct o
   pub below : (i : ℕ) → 16 ≤ i → lookSlot i o ≡ none
-  pub ranked : (i : ℕ) → i < 16 → rank i ≡ placeFrom 0 i o
+  pub ranked : (i : ℕ) → i < 16 → rank i ≡ positionFrom 0 i o
 
-pub order-new : {rank : ℕ → ℕ} → ((i : ℕ) → i < 16 → rank i ≡ 16) → Order rank []
-order-new e = record { distinct = tt; below = λ i h. refl; ranked = e }
+pub order-none : {rank : ℕ → ℕ} → ((i : ℕ) → i < 16 → rank i ≡ 16) → Order rank []
+order-none e = record { distinct = tt; below = λ i h. refl; ranked = e }
 
--- the last of a list of distinct slots has the last place
-last-there : (p : ℕ) (e : ℕ × Unit {0}) (o : Slots) → Distinct (e ∷ o) → (j : ℕ) × (lookSlot j (e ∷ o) ≡ some tt) × (placeFrom p j (e ∷ o) ≡ length o + p)
+-- the last of a list of distinct slots has the last position
+last-there : (p : ℕ) (e : ℕ × Unit {0}) (o : Slots) → Distinct (e ∷ o) → (j : ℕ) × (lookSlot j (e ∷ o) ≡ some tt) × (positionFrom p j (e ∷ o) ≡ length o + p)
 last-there p e [] d = (e .0, simp if-pos, simp if-pos (omega arith))
 last-there p e (f ∷ o) d =
     let r = last-there (suc p) f o (d .1) in
@@ -106,12 +106,12 @@ last-there p e (f ∷ o) d =
     (λ z. absurd (Option·none-ne-some tt (sym (lookup-absent ℕ-discrete (r .0) (f ∷ o) (rw (← z) at (d .0))) ∙ r .1)))
     (λ z. (r .0, rw if-neg (r .1), rw if-neg (omega (arith, r .2))))
 
-last-of : (m : ℕ) (o : Slots) → Distinct o → length o ≡ suc m → (j : ℕ) × (lookSlot j o ≡ some tt) × (placeFrom 0 j o ≡ m)
+last-of : (m : ℕ) (o : Slots) → Distinct o → length o ≡ suc m → (j : ℕ) × (lookSlot j o ≡ some tt) × (positionFrom 0 j o ≡ m)
 last-of m [] d n = absurd (omega arith)
 last-of m (e ∷ o) d n = let r = last-there 0 e o d in (r .0, r .1, omega (arith, r .2))
 
--- the slot of the last place is the last of the list
-without-last : (p s : ℕ) (o : Slots) → length o + p ≤ 16 → suc (placeFrom p s o) ≡ length o + p → withoutSlot s o ≡ take (length o - 1) o
+-- the slot of the last position is the last of the list
+without-last : (p s : ℕ) (o : Slots) → length o + p ≤ 16 → suc (positionFrom p s o) ≡ length o + p → withoutSlot s o ≡ take (length o - 1) o
 without-last p s [] n q = refl
 without-last p s (e ∷ []) n q = by-cases (ℕ-discrete s (e .0)) (λ z. rw if-pos) (λ z. absurd (let v = simp if-neg at q in omega arith))
 without-last p s (e ∷ f ∷ o) n q =
@@ -152,12 +152,12 @@ module _ {rank : ℕ → ℕ} {o : Slots} (r : Order rank o) where
 
   -- the slots in use are those of the order
   pub in-use-there : (i : ℕ) → i < 16 → inUse rank i ≡ true → lookSlot i o ≡ some tt
-  in-use-there i h e = place-there 0 i o (omega (arith, order-length)) (omega (arith, r .ranked i h, ltb-true (rank i) 16 e))
+  in-use-there i h e = position-there 0 i o (omega (arith, order-length)) (omega (arith, r .ranked i h, ltb-true (rank i) 16 e))
 
   pub there-in-use : (i : ℕ) → lookSlot i o ≡ some tt → (i < 16) × (inUse rank i ≡ true)
   there-in-use i q =
       let h : i < 16 = by-cases (decLt i 16) (λ p. p) (λ p. absurd (Option·none-ne-some tt (sym (r .below i (omega arith)) ∙ q))) in
-      (h, lt-ltb (rank i) 16 (omega (arith, r .ranked i h, place-in 0 i o q, order-length)))
+      (h, lt-ltb (rank i) 16 (omega (arith, r .ranked i h, position-in 0 i o q, order-length)))
 
   -- a slot that is used comes to the front
   module _ (s : ℕ) (h : s < 16) where
@@ -168,7 +168,7 @@ module _ {rank : ℕ → ℕ} {o : Slots} (r : Order rank o) where
       ranked = λ i l.
           by-cases (ℕ-discrete i s)
           (λ e. u i l ∙ rw (eq-eqb i s e) (sym (simp if-pos)))
-          (λ e. u i l ∙ rw (ne-eqb i s e, r .ranked s h, r .ranked i l) (sym (simp if-neg (place-used 0 i s o e (r .distinct) (omega (arith, order-length))))));
+          (λ e. u i l ∙ rw (ne-eqb i s e, r .ranked s h, r .ranked i l) (sym (simp if-neg (position-used 0 i s o e (r .distinct) (omega (arith, order-length))))));
     }
 
     pub order-short : length (withoutSlot s o) ≤ 15
@@ -179,8 +179,8 @@ module _ {rank : ℕ → ℕ} {o : Slots} (r : Order rank o) where
   rank-most i h = go (lookSlot i o) refl
     where
       go : (x : Option (Unit {0})) → lookSlot i o ≡ x → rank i ≤ 16
-      go none q = omega (arith, r .ranked i h, place-absent 0 i o q)
-      go (some x) q = omega (arith, r .ranked i h, place-in 0 i o q, order-length)
+      go none q = omega (arith, r .ranked i h, position-absent 0 i o q)
+      go (some x) q = omega (arith, r .ranked i h, position-in 0 i o q, order-length)
 
   -- an order of sixteen has every slot
   pub all-there : length o ≡ 16 → (i : ℕ) → i < 16 → inUse rank i ≡ true
@@ -215,9 +215,9 @@ module _ {rank : ℕ → ℕ} {o : Slots} (r : Order rank o) where
       b = new-slot-below rank
 
       go : (x : Option (Unit {0})) → lookSlot (newSlot rank) o ≡ x → rank j ≤ rank (newSlot rank)
-      go none q = omega (arith, r .ranked (newSlot rank) b, place-absent 0 (newSlot rank) o q, rank-most j h)
+      go none q = omega (arith, r .ranked (newSlot rank) b, position-absent 0 (newSlot rank) o q, rank-most j h)
       go (some x) q =
-          let n : length o ≡ 16 = omega (arith, order-length, r .ranked (newSlot rank) b, place-in 0 (newSlot rank) o q, new-slot-rank) in
+          let n : length o ≡ 16 = omega (arith, order-length, r .ranked (newSlot rank) b, position-in 0 (newSlot rank) o q, new-slot-rank) in
           omega (arith, new-slot-rank, ltb-true (rank j) 16 (all-there n j h))
 
   pub new-slot-first : (j : ℕ) → j < newSlot rank → rank j < rank (newSlot rank)
@@ -236,40 +236,40 @@ module _ {rank : ℕ → ℕ} {o : Slots} (r : Order rank o) where
       go : (x : Option (Unit {0})) → lookSlot s o ≡ x → withoutSlot s o ≡ take 15 o
       go none q = sym (take-all 15 (withoutSlot s o) (order-short s b)) ∙ ap (take 15) (without-absent ℕ-discrete s o (absent-none ℕ-discrete s o q))
       go (some x) q =
-          let p = place-in 0 s o q in
+          let p = position-in 0 s o q in
           let n : length o ≡ 16 = omega (arith, order-length, r .ranked s b, p, new-slot-rank) in
           rw n at (without-last 0 s o (omega arith) (omega (arith, r .ranked s b, p, n, new-slot-rank)))
 
 -- ---- forgetting
 
--- places counted from one later
-place-shift : (p i : ℕ) (o : Slots) → length o + suc p ≤ 16 → placeFrom p i o ≡ lowered p (placeFrom (suc p) i o)
-place-shift p i o n = go (lookSlot i o) refl
+-- positions counted from one later
+position-shift : (p i : ℕ) (o : Slots) → length o + suc p ≤ 16 → positionFrom p i o ≡ lowered p (positionFrom (suc p) i o)
+position-shift p i o n = go (lookSlot i o) refl
   where
-    shifted : (p : ℕ) (o : Slots) → lookSlot i o ≡ some tt → placeFrom (suc p) i o ≡ suc (placeFrom p i o)
+    shifted : (p : ℕ) (o : Slots) → lookSlot i o ≡ some tt → positionFrom (suc p) i o ≡ suc (positionFrom p i o)
     shifted p [] q = absurd (Option·none-ne-some tt q)
     shifted p (e ∷ o) q = by-cases (ℕ-discrete i (e .0)) (λ z. simp if-pos) (λ z. simp if-neg (shifted (suc p) o (simp if-neg at q)))
 
-    go : (x : Option (Unit {0})) → lookSlot i o ≡ x → placeFrom p i o ≡ lowered p (placeFrom (suc p) i o)
-    go none q = rw (place-absent p i o q, place-absent (suc p) i o q) (sym (lowered-free p))
+    go : (x : Option (Unit {0})) → lookSlot i o ≡ x → positionFrom p i o ≡ lowered p (positionFrom (suc p) i o)
+    go none q = rw (position-absent p i o q, position-absent (suc p) i o q) (sym (lowered-free p))
     go (some x) q =
         let e = shifted p o q in
-        let l : lowered p (suc (placeFrom p i o)) ≡ suc (placeFrom p i o) - 1 =
-        lowered-above {old = p} {x = suc (placeFrom p i o)} (omega (arith, place-from p i o (omega arith) (omega arith))) (omega (arith, place-in (suc p) i o q)) in
-        let m : suc (placeFrom p i o) - 1 ≡ placeFrom p i o = omega arith in
+        let l : lowered p (suc (positionFrom p i o)) ≡ suc (positionFrom p i o) - 1 =
+        lowered-above {old = p} {x = suc (positionFrom p i o)} (omega (arith, position-from p i o (omega arith) (omega arith))) (omega (arith, position-in (suc p) i o q)) in
+        let m : suc (positionFrom p i o) - 1 ≡ positionFrom p i o = omega arith in
         sym (ap (lowered p) e ∙ l ∙ m)
 
-place-forgotten : (p i s : ℕ) (o : Slots) → i ≢ s → Distinct o → length o + p ≤ 16 → lookSlot s o ≡ some tt
-    → placeFrom p i (withoutSlot s o) ≡ lowered (placeFrom p s o) (placeFrom p i o)
-place-forgotten p i s [] n d h q = absurd (Option·none-ne-some tt q)
-place-forgotten p i s (e ∷ o) n d h q =
+position-forgotten : (p i s : ℕ) (o : Slots) → i ≢ s → Distinct o → length o + p ≤ 16 → lookSlot s o ≡ some tt
+    → positionFrom p i (withoutSlot s o) ≡ lowered (positionFrom p s o) (positionFrom p i o)
+position-forgotten p i s [] n d h q = absurd (Option·none-ne-some tt q)
+position-forgotten p i s (e ∷ o) n d h q =
     by-cases (ℕ-discrete s (e .0))
     (λ z.
     let m : i ≢ e .0 = λ y. n (y ∙ sym z) in
-    simp (if-pos, if-neg, without-absent ℕ-discrete s o (rw (← z) at (d .0))) (place-shift p i o (omega arith)))
+    simp (if-pos, if-neg, without-absent ℕ-discrete s o (rw (← z) at (d .0))) (position-shift p i o (omega arith)))
     (λ z. by-cases (ℕ-discrete i (e .0))
-    (λ y. simp (if-pos, if-neg) (sym (lowered-below (omega (arith, place-from (suc p) s o (omega arith) (omega arith))))))
-    (λ y. simp if-neg (place-forgotten (suc p) i s o n (d .1) (omega arith) (simp if-neg at q))))
+    (λ y. simp (if-pos, if-neg) (sym (lowered-below (omega (arith, position-from (suc p) s o (omega arith) (omega arith))))))
+    (λ y. simp if-neg (position-forgotten (suc p) i s o n (d .1) (omega arith) (simp if-neg at q))))
 
 -- a slot in use that is forgotten leaves the others in their order
 pub order-forgotten : {rank rank′ : ℕ → ℕ} {o : Slots} → Order rank o → (s : ℕ) → s < 16 → inUse rank s ≡ true
@@ -279,6 +279,6 @@ order-forgotten {o = o} r s h e u = record {
   below = λ i l. let n : i ≢ s = λ e. omega arith in lookup-without ℕ-discrete i s o n ∙ r .below i l;
   ranked = λ i l.
       by-cases (ℕ-discrete i s)
-      (λ q. u i l ∙ rw (eq-eqb i s q) (sym (place-absent 0 i (withoutSlot s o) (rw q (lookup-absent ℕ-discrete s (withoutSlot s o) (absent-without ℕ-discrete s o))))))
-      (λ q. u i l ∙ rw (ne-eqb i s q, r .ranked s h, r .ranked i l) (sym (place-forgotten 0 i s o q (r .distinct) (omega (arith, order-length r)) (in-use-there r s h e))));
+      (λ q. u i l ∙ rw (eq-eqb i s q) (sym (position-absent 0 i (withoutSlot s o) (rw q (lookup-absent ℕ-discrete s (withoutSlot s o) (absent-without ℕ-discrete s o))))))
+      (λ q. u i l ∙ rw (ne-eqb i s q, r .ranked s h, r .ranked i l) (sym (position-forgotten 0 i s o q (r .distinct) (omega (arith, order-length r)) (in-use-there r s h e))));
 }

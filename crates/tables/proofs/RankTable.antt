@@ -1,21 +1,21 @@
--- A table of slots and ranks represents the list of its entries by last use: what its history leaves remembered, however long it is.
+-- A table of slots and ranks represents the list of its entries by last use; a frame moves both alike.
 use Prim.Native.Nat.{ℕ, _<_, zero-le}
 use mathlib.Core.Bool.{true, _&&_, true≢false}
-use mathlib.Core.List.{List, [], _∷_, foldl, reverse}
+use mathlib.Core.List.{List, [], _∷_}
 use mathlib.Core.Logic.{_≢_, _↔_}
 use mathlib.Core.Option.{some}
 use mathlib.Core.Path.{_≡_, refl, sym, ap, _∙_}
 use native.Mathlib.Decide.{ℕ-discrete}
 use lib.ListN.{take, length-map}
 use lib.Seq.{take-all}
-use Rattle.tables.proofs.RankOrder.{Slots, lookSlot, withoutSlot, Order, order-new, in-use-there, there-in-use, order-used, order-short, order-forgotten, new-slot}
+use Rattle.tables.proofs.RankOrder.{Slots, lookSlot, withoutSlot, Order, order-none, in-use-there, there-in-use, order-used, order-short, order-forgotten, new-slot}
 use Rattle.records.proofs.Booleans.{and-both, and-yes}
-use Rattle.records.proofs.ByLastUse.{touch, touch-distinct, by-last-use}
-use Rattle.records.proofs.KeyedLists.{All, Absent, Distinct, pairwise-without, lookup-absent, absent-without, without-absent, all-found, entriesOf, entries-other, entries-absent, entries-take, entries-without, entries-lookup}
+use Rattle.records.proofs.ByLastUse.{touch, touch-distinct}
+use Rattle.records.proofs.KeyedLists.{Absent, Distinct, pairwise-without, lookup-absent, absent-without, without-absent, all-found, entriesOf, entries-other, entries-absent, entries-take, entries-without, entries-lookup}
 use Rattle.records.proofs.SearchLaws.{Searched, hit, miss, searched}
 use Rattle.records.specs.declared.search.Found.{Found}
 use Rattle.records.specs.declared.search.Found.the-variants.{At, Nothing}
-use Rattle.records.specs.Remembered.{lookup, without, remembered}
+use Rattle.records.specs.Remembered.{lookup, without}
 use Rattle.records.specs.Search.{slotOr}
 use Rattle.tables.specs.Order.{inUse, newSlot, usedRank, forgottenRank}
 use Rattle.tables.specs.Table.{Columns, slotOf, valueAt, valueOf, target, stepped}
@@ -53,8 +53,8 @@ module _ {K W : Type 0} (B : Table K W) where
     pub entries : entriesOf (entry B t) order ≡ l
     pub distinct : Distinct l
 
-  pub represents-new : (t : B .State) → B .Sized t → ((i : ℕ) → i < 16 → rank B t i ≡ 16) → Represents t []
-  represents-new t z e = record { sized = z; order = []; ordered = order-new e; entries = refl; distinct = tt }
+  pub represents-none : (t : B .State) → B .Sized t → ((i : ℕ) → i < 16 → rank B t i ≡ 16) → Represents t []
+  represents-none t z e = record { sized = z; order = []; ordered = order-none e; entries = refl; distinct = tt }
 
 module _ {K W : Type 0} (B : Table K W) (dec : Discrete K) {t : B .State} {l : List (K × W)} (r : Represents B t l) (k : K) (g : B .Legal k) where
   -- the search found the slot of key k, or the list has no such key
@@ -118,12 +118,12 @@ module _ {K W : Type 0} (B : Table K W) (dec : Discrete K) {t : B .State} {l : L
         distinct = pairwise-without dec _ (B .key t s) l (r .distinct);
       }
 
-module _ {K W I : Type 0} (B : Table K W) (dec : Discrete K) (fresh : I → W) (step : W → I → W) where
+module _ {K W I : Type 0} (B : Table K W) (fresh : I → W) (step : W → I → W) where
   -- the table after a frame, a key and its input
   abbrev pub next : B .State → K × I → B .State
   next t x = stepped (B .columns) fresh step t (x .0) (x .1)
 
-  module _ {t : B .State} {l : List (K × W)} (r : Represents B t l) (x : K × I) (g : B .Legal (x .0)) where
+  module _ (dec : Discrete K) {t : B .State} {l : List (K × W)} (r : Represents B t l) (x : K × I) (g : B .Legal (x .0)) where
     pub represents-stepped : Represents B (next t x) (touch dec 16 fresh step l x)
     represents-stepped =
         let s = target (B .columns) t (x .0) in
@@ -144,16 +144,3 @@ module _ {K W I : Type 0} (B : Table K W) (dec : Discrete K) (fresh : I → W) (
               );
           distinct = touch-distinct dec 16 fresh step l x (r .distinct);
         }
-
-  pub represents-history : {t : B .State} {l : List (K × W)} → Represents B t l → (h : List (K × I)) → All (λ x. B .Legal (x .0)) h
-      → Represents B (foldl next t h) (foldl (touch dec 16 fresh step) l h)
-  represents-history r [] g = r
-  represents-history r (x ∷ h) g = represents-history (represents-stepped r x (g .0)) h (g .1)
-
-  -- from a fresh table, frames leave what their history leaves remembered
-  module _ (t : B .State) (z : B .Sized t) (e : (i : ℕ) → i < 16 → rank B t i ≡ 16) (h : List (K × I)) (g : All (λ x. B .Legal (x .0)) h) where
-    pub represents-remembered : Represents B (foldl next t h) (remembered dec 16 fresh step (reverse h))
-    represents-remembered = rw (← by-last-use dec 16 fresh step h) (represents-history (represents-new B t z e) h g)
-
-    pub value-remembered : (k : K) → B .Legal k → valueOf (B .columns) (foldl next t h) k ≡ lookup dec k (remembered dec 16 fresh step (reverse h))
-    value-remembered = value-lookup B dec represents-remembered

@@ -1,7 +1,7 @@
 -- The tables of words, by name and by number, are tables (RankTable): a key, a use and a value stored in a slot give it these and leave the others.
 use Prim.Native.Nat.{ℕ, zero, suc, _+_, _*_, _≤_, _<_}
 use mathlib.Core.Bool.{true, cond, _&&_}
-use mathlib.Core.List.{List, [], _∷_}
+use mathlib.Core.List.{List, [], _∷_, _++_}
 use mathlib.Core.Logic.{_≢_, _↔_, by-cases}
 use mathlib.Core.Option.{some}
 use mathlib.Core.Path.{_≡_, refl, sym, ap, _∙_}
@@ -10,8 +10,8 @@ use native.Mathlib.Nat.{not-suc-le-zero}
 use native.Mathlib.Omega.{arith}
 use borrow.Author.Tests.{lt-ltb, le-ltb, eq-eqb, eqb-true, ltb-true}
 use lib.Dec.{ltb}
-use lib.ListN.{length, getD, set, length-set}
-use lib.Seq.{getD-set-same, getD-set-other, ext-getD}
+use lib.ListN.{length, getD, set, length-set, length-append, List·getD-append}
+use lib.Seq.{getD-append-add, getD-set-same, getD-set-other, ext-getD}
 use Rattle.records.proofs.Booleans.{cond-yes, cond-no}
 use Rattle.records.proofs.NameLaws.{length-tabulate, tabulate-at, tabulate-same, agree-all, length-overwritten, overwritten-in, overwritten-out}
 use Rattle.records.proofs.SearchLaws.{Searched, hit, miss, searched}
@@ -20,15 +20,15 @@ use Rattle.records.specs.Name.{tabulate, overwritten}
 use Rattle.records.specs.Remembered.{without, after}
 use Rattle.tables.proofs.NamedLaws.{name-decides, has-key}
 use Rattle.tables.proofs.OrderLaws.{length-used, used-rank, used-out, length-forgotten, forgotten-rank, forgotten-out}
-use Rattle.tables.proofs.RankTable.{Table, Represents, represents-new, represents-forgotten}
+use Rattle.tables.proofs.RankTable.{Table, Represents, represents-none, represents-forgotten}
 use Rattle.tables.specs.declared.place.Place.{Place}
 use Rattle.tables.specs.Column.{wordOf, wordSet}
-use Rattle.tables.specs.Named.{hasKey, findKey, keyStored, keyEntered}
-use Rattle.tables.specs.Numbered.{findNumber, numberStored, numberEntered}
+use Rattle.tables.specs.Named.{hasKey, keyStored, named}
+use Rattle.tables.specs.Numbered.{numberStored, numbered}
 use Rattle.tables.specs.Order.{rankOf, inUse, usedRank, usedSlot, forgottenSlot, noEntries}
-use Rattle.tables.specs.Place.{Entered, placeAt, entered, ifKnown}
-use Rattle.tables.specs.Table.{slotOf, valueAt, valueOf, stepped}
-use Rattle.tables.specs.WordTable.{KeyColumns, named, numbered, Coded, valueWord, valueSet, wordTable}
+use Rattle.tables.specs.Place.{KeyColumns, Entered, placeAt, found, enteredAt, entered, ifKnown}
+use Rattle.tables.specs.Table.{valueAt, valueOf, stepped}
+use Rattle.tables.specs.WordTable.{Encoding, valueWord, valueSet, wordTable, oneNumber, both, twoNumbers, threeNumbers}
 
 -- ---- the words of a slot
 
@@ -82,11 +82,44 @@ module _ (s : ℕ) (h : s < 16) where
   values-in (v ∷ vs) t column (suc j) x n l e =
       values-in vs (wordSet t column s v) (column + 16) j x (omega (arith, length-word t s h column v)) (omega arith) (omega arith)
 
+-- ---- how values are kept
+
+-- a value has a word for each column, comes back from them, and is read from no others
+pub record EncodingLaws {W : Type 0} (encoding : Encoding W) : Type 0 where
+  pub size : (w : W) → length (encoding .words w) ≡ encoding .count
+  pub back : (w : W) (f : ℕ → ℕ) → ((k : ℕ) → k < encoding .count → f k ≡ getD (encoding .words w) k 0) → encoding .read f ≡ w
+  pub same : (f g : ℕ → ℕ) → ((k : ℕ) → k < encoding .count → f k ≡ g k) → encoding .read f ≡ encoding .read g
+
+pub oneLaws : EncodingLaws oneNumber
+oneLaws = record { size = λ w. refl; back = λ w f e. e 0 (omega arith); same = λ f g e. e 0 (omega arith) }
+
+pub bothLaws : {A B : Type 0} {a : Encoding A} {b : Encoding B} → EncodingLaws a → EncodingLaws b → EncodingLaws (both a b)
+bothLaws {a = a} {b = b} la lb =
+    record {
+      size = λ w. length-append (a .words (w .0)) (b .words (w .1)) ∙ rw (la .size (w .0), lb .size (w .1));
+      back = λ w f e.
+          let x = la .back (w .0) f (λ k l. e k (omega arith) ∙ List·getD-append (a .words (w .0)) (b .words (w .1)) 0 k (omega (arith, la .size (w .0)))) in
+          let y = lb .back (w .1) (λ k. f (k + a .count)) (λ k l.
+          let q : k + a .count ≡ length (a .words (w .0)) + k = omega (arith, la .size (w .0)) in
+          e (k + a .count) (omega arith) ∙ ap (λ (x : ℕ). getD (a .words (w .0) ++ b .words (w .1)) x 0) q ∙ getD-append-add (a .words (w .0)) (b .words (w .1)) k 0) in
+          λ i. (x i, y i);
+      same = λ f g e.
+          let x = la .same f g (λ k l. e k (omega arith)) in
+          let y = lb .same (λ k. f (k + a .count)) (λ k. g (k + a .count)) (λ k l. e (k + a .count) (omega arith)) in
+          λ i. (x i, y i);
+    }
+
+pub twoLaws : EncodingLaws twoNumbers
+twoLaws = bothLaws oneLaws oneLaws
+
+pub threeLaws : EncodingLaws threeNumbers
+threeLaws = bothLaws twoLaws oneLaws
+
 -- ---- keys of a kind
 
 -- the key of a slot, and four laws: a slot matches the key that it has; a key is read from the key columns; a key stored changes these alone; and the
 -- slot then has it, and the others theirs
-pub record KeyLaws {K : Type 0} (keys : KeyColumns K) : Type 1 where
+pub record KeyColumnLaws {K : Type 0} (keys : KeyColumns K) : Type 1 where
   pub Legal : K → Type 0
   pub keyAt : List ℕ → ℕ → K
   pub behind : 16 ≤ keys .values
@@ -99,67 +132,67 @@ pub record KeyLaws {K : Type 0} (keys : KeyColumns K) : Type 1 where
   pub stored-other : (t : List ℕ) (s : ℕ) (k : K) → s < 16 → (i : ℕ) → i ≢ s → keyAt (keys .stored t s k) i ≡ keyAt t i
 
 -- the table of keys of a kind, with values kept in so many columns
-module _ {K W : Type 0} (keys : KeyColumns K) (L : KeyLaws keys) (code : Coded W) where
+module _ {K W : Type 0} (keys : KeyColumns K) (L : KeyColumnLaws keys) (encoding : Encoding W) (E : EncodingLaws encoding) where
   -- a key, a use and a value stored in a slot
-  module _ (t : List ℕ) (s : ℕ) (k : K) (w : W) (z : length t ≡ keys .values + code .count * 16) (h : s < 16) where
-    abbrev pub keyed : List ℕ
-    keyed = keys .stored t s k
+  module _ (t : List ℕ) (s : ℕ) (k : K) (w : W) (z : length t ≡ keys .values + encoding .count * 16) (h : s < 16) where
+    abbrev pub withKey : List ℕ
+    withKey = keys .stored t s k
 
-    abbrev pub used : List ℕ
-    used = usedSlot keyed s
+    abbrev pub withUse : List ℕ
+    withUse = usedSlot withKey s
 
-    abbrev pub done : List ℕ
-    done = valueSet used (keys .values) s (code .words w)
+    abbrev pub withValue : List ℕ
+    withValue = valueSet withUse (keys .values) s (encoding .words w)
 
-    length-of-used : length used ≡ length t
-    length-of-used = length-used keyed s h ∙ L .stored-length t s k h
+    length-with-use : length withUse ≡ length t
+    length-with-use = length-used withKey s h ∙ L .stored-length t s k h
 
-    pub done-length : length done ≡ keys .values + code .count * 16
-    done-length = length-values s h (code .words w) used (keys .values) ∙ length-of-used ∙ z
+    pub value-length : length withValue ≡ keys .values + encoding .count * 16
+    value-length = length-values s h (encoding .words w) withUse (keys .values) ∙ length-with-use ∙ z
 
     -- below the values the words are those after the use, and behind the ranks these are the key's
-    below : (x : ℕ) → x < keys .values → getD done x 0 ≡ getD used x 0
-    below x l = values-out s h x (code .words w) used (keys .values) (λ j q. omega arith)
+    below : (x : ℕ) → x < keys .values → getD withValue x 0 ≡ getD withUse x 0
+    below x l = values-out s h x (encoding .words w) withUse (keys .values) (λ j q. omega arith)
 
-    pub in-key : (x : ℕ) → 16 ≤ x → x < keys .values → getD done x 0 ≡ getD keyed x 0
-    in-key x l g = below x g ∙ used-out keyed s h x l
+    pub in-key : (x : ℕ) → 16 ≤ x → x < keys .values → getD withValue x 0 ≡ getD withKey x 0
+    in-key x l g = below x g ∙ used-out withKey s h x l
 
-    pub done-rank : (i : ℕ) → i < 16 → rankOf done i ≡ usedRank (rankOf t) s i
-    done-rank i l =
+    pub value-rank : (i : ℕ) → i < 16 → rankOf withValue i ≡ usedRank (rankOf t) s i
+    value-rank i l =
         below i (omega (arith, L .behind))
-        ∙ used-rank keyed s h (omega (arith, L .stored-length t s k h, L .behind)) i l
+        ∙ used-rank withKey s h (omega (arith, L .stored-length t s k h, L .behind)) i l
         ∙ rw (L .stored-ranks t s k h s h, L .stored-ranks t s k h i l)
 
-    pub done-value : code .read (valueWord done (keys .values) s) ≡ w
-    done-value =
-        code .back w _ (λ j l.
-        word-at done s h (j * 16 + keys .values)
-        ∙ values-in s h (code .words w) used (keys .values) j (j * 16 + keys .values + s) (omega (arith, length-of-used, code .fits w)) l (omega arith))
+    pub value-back : encoding .read (valueWord withValue (keys .values) s) ≡ w
+    value-back =
+        E .back w _ (λ j l.
+        word-at withValue s h (j * 16 + keys .values)
+        ∙ values-in s h (encoding .words w) withUse (keys .values) j (j * 16 + keys .values + s) (omega (arith, length-with-use, E .size w)) (omega (arith, E .size w)) (omega arith))
 
-    pub other-value : (i : ℕ) → i ≢ s → code .read (valueWord done (keys .values) i) ≡ code .read (valueWord t (keys .values) i)
+    pub other-value : (i : ℕ) → i ≢ s → encoding .read (valueWord withValue (keys .values) i) ≡ encoding .read (valueWord t (keys .values) i)
     other-value i n =
-        code .same _ _ (λ j l.
-        word-same t done (j * 16 + keys .values) i (λ g.
-        values-out s h (j * 16 + keys .values + i) (code .words w) used (keys .values) (λ m q. n (omega arith))
-        ∙ used-out keyed s h (j * 16 + keys .values + i) (omega (arith, L .behind))
+        E .same _ _ (λ j l.
+        word-same t withValue (j * 16 + keys .values) i (λ g.
+        values-out s h (j * 16 + keys .values + i) (encoding .words w) withUse (keys .values) (λ m q. n (omega arith))
+        ∙ used-out withKey s h (j * 16 + keys .values + i) (omega (arith, L .behind))
         ∙ L .stored-values t s k h (j * 16 + keys .values + i) (omega arith)))
 
   abbrev pub table : Table K W
   table =
       record {
         State = List ℕ;
-        Sized = λ t. length t ≡ keys .values + code .count * 16;
+        Sized = λ t. length t ≡ keys .values + encoding .count * 16;
         Legal = L .Legal;
-        columns = wordTable keys code;
+        columns = wordTable keys encoding;
         key = L .keyAt;
         matched = λ t k i z. L .matched t k i (omega arith);
         stored = λ t s k w z g h.
             record {
-              sized = done-length t s k w z h;
-              uses = done-rank t s k w z h;
-              same = (L .reads (keyed t s k w z h) (done t s k w z h) s (in-key t s k w z h) ∙ L .stored-here t s k (omega arith) g h, done-value t s k w z h);
+              sized = value-length t s k w z h;
+              uses = value-rank t s k w z h;
+              same = (L .reads (withKey t s k w z h) (withValue t s k w z h) s (in-key t s k w z h) ∙ L .stored-here t s k (omega arith) g h, value-back t s k w z h);
               other = λ i n. (
-                L .reads (keyed t s k w z h) (done t s k w z h) i (in-key t s k w z h) ∙ L .stored-other t s k h i n,
+                L .reads (withKey t s k w z h) (withValue t s k w z h) i (in-key t s k w z h) ∙ L .stored-other t s k h i n,
                 other-value t s k w z h i n,
               );
             };
@@ -175,45 +208,66 @@ pub rank-none : (n : ℕ) → 16 ≤ n → (i : ℕ) → i < 16 → rankOf (noEn
 unfolding noEntries
 rank-none n h i l = tabulate-at _ n i 0 (omega arith) ∙ cond-yes _ _ (lt-ltb i 16 l)
 
-module _ {K W : Type 0} (keys : KeyColumns K) (L : KeyLaws keys) (code : Coded W) (dec : Discrete K) where
-  pub represents-none : Represents (table keys L code) (noEntries (keys .values + code .count * 16)) []
-  represents-none =
-      let n = keys .values + code .count * 16 in represents-new (table keys L code) (noEntries n) (length-none n) (rank-none n (omega (arith, L .behind)))
+module _ {K W : Type 0} (keys : KeyColumns K) (L : KeyColumnLaws keys) (encoding : Encoding W) (E : EncodingLaws encoding) (dec : Discrete K) where
+  pub represents-no-entries : Represents (table keys L encoding E) (noEntries (keys .values + encoding .count * 16)) []
+  represents-no-entries =
+      let n = keys .values + encoding .count * 16 in represents-none (table keys L encoding E) (noEntries n) (length-none n) (rank-none n (omega (arith, L .behind)))
 
-  module _ {t : List ℕ} {l : List (K × W)} (r : Represents (table keys L code) t l) where
+  module _ {t : List ℕ} {l : List (K × W)} (r : Represents (table keys L encoding E) t l) where
     -- an entry forgotten goes from the list, and the others keep their order
-    pub represents-forget : (s : ℕ) → s < 16 → inUse (rankOf t) s ≡ true
-        → Represents (table keys L code) (forgottenSlot t s) (without dec (L .keyAt t s) l)
-    represents-forget s h e =
+    pub words-forgotten : (s : ℕ) → s < 16 → inUse (rankOf t) s ≡ true
+        → Represents (table keys L encoding E) (forgottenSlot t s) (without dec (L .keyAt t s) l)
+    words-forgotten s h e =
         let u = ltb-true (rankOf t s) 16 e in
-        represents-forgotten (table keys L code) dec r s h e
+        represents-forgotten (table keys L encoding E) dec r s h e
         (length-forgotten t s h u ∙ r .sized)
         (forgotten-rank t s h u (omega (arith, r .sized, L .behind)))
         (λ i.
         let p = L .reads t (forgottenSlot t s) i (λ x l g. forgotten-out t s h u x l) in
-        let q = code .same _ _ (λ j l. word-same t (forgottenSlot t s) (j * 16 + keys .values) i (λ g. forgotten-out t s h u _ (omega (arith, L .behind)))) in
+        let q = E .same _ _ (λ j l. word-same t (forgottenSlot t s) (j * 16 + keys .values) i (λ g. forgotten-out t s h u _ (omega (arith, L .behind)))) in
         λ x. (p x, q x))
 
-module _ {K W : Type 0} (keys : KeyColumns K) (L : KeyLaws keys) (code : Coded W) (t : List ℕ) where
+module _ {K W : Type 0} (keys : KeyColumns K) (L : KeyColumnLaws keys) (encoding : Encoding W) (E : EncodingLaws encoding) (t : List ℕ) where
   -- the value that is read where a frame was entered is what the table had of its key
   pub value-entered : (k : K)
-      → (let e = entered (λ t s. keys .stored t s k) t (placeAt (rankOf t) (slotOf (wordTable keys code) t k)) in
-      valueOf (wordTable keys code) t k ≡ ifKnown (e .place .known) (code .read (valueWord (e .words) (keys .values) (e .place .slot))))
+      → valueOf (wordTable keys encoding) t k
+      ≡ ifKnown (entered keys t k .place .known) (encoding .read (valueWord (entered keys t k .table) (keys .values) (entered keys t k .place .slot)))
+  unfolding entered found
   value-entered k = go (searched (λ i. keys .matches t k i && inUse (rankOf t) i) 0 16)
     where
       go : {f : Found} → Searched (λ i. keys .matches t k i && inUse (rankOf t) i) 0 16 f
-          → (let e = entered (λ t s. keys .stored t s k) t (placeAt (rankOf t) f) in
-          valueAt (wordTable keys code) t f ≡ ifKnown (e .place .known) (code .read (valueWord (e .words) (keys .values) (e .place .slot))))
+          → (let e = enteredAt keys t k (placeAt (rankOf t) f) in
+          valueAt (wordTable keys encoding) t f ≡ ifKnown (e .place .known) (encoding .read (valueWord (e .table) (keys .values) (e .place .slot))))
       go (hit s h p) =
-          ap some (code .same _ _ (λ j l.
+          ap some (E .same _ _ (λ j l.
           sym (word-same t (usedSlot (keys .stored t s k) s) (j * 16 + keys .values) s (λ g.
           used-out (keys .stored t s k) s h _ (omega (arith, L .behind)) ∙ L .stored-values t s k h _ (omega arith)))))
       go (miss p) = refl
 
+-- ---- a check: a frame entered, its value read, and the value that follows set in the slot that it used
+
+module _ {K W : Type 0} (keys : KeyColumns K) (L : KeyColumnLaws keys) (encoding : Encoding W) (E : EncodingLaws encoding) (t : List ℕ) (k : K)
+    {u : List ℕ} {place : Place} (e : record { table = u; place = place } ≡ entered keys t k) where
+  -- the value that is read is what the table had of the key
+  pub value-read : ifKnown (place .known) (encoding .read (valueWord u (keys .values) (place .slot))) ≡ valueOf (wordTable keys encoding) t k
+  value-read =
+      ap (λ (x : Entered). ifKnown (x .place .known) (encoding .read (valueWord (x .table) (keys .values) (x .place .slot)))) e
+      ∙ sym (value-entered keys L encoding E t k)
+
+  -- and the table is then one frame further
+  pub value-stored : {I : Type 0} (fresh : I → W) (step : W → I → W) (i : I) {w : W} {out : List ℕ}
+      → w ≡ after fresh step (valueOf (wordTable keys encoding) t k) i → out ≡ valueSet u (keys .values) (place .slot) (encoding .words w)
+      → out ≡ stepped (wordTable keys encoding) fresh step t k i
+  unfolding entered found
+  value-stored fresh step i {w} v o =
+      o
+      ∙ ap (λ (x : Entered). valueSet (x .table) (keys .values) (x .place .slot) (encoding .words w)) e
+      ∙ ap (λ (x : W). valueSet (entered keys t k .table) (keys .values) (entered keys t k .place .slot) (encoding .words x)) v
+
 -- ---- by number
 
-abbrev pub numberLaws : KeyLaws numbered
-numberLaws =
+abbrev pub numberedLaws : KeyColumnLaws numbered
+numberedLaws =
     record {
       Legal = λ k. Unit {0};
       keyAt = λ t i. wordOf t 16 i;
@@ -259,7 +313,7 @@ module _ (t k : List ℕ) (i : ℕ) (h : i < 16) where
 
   pub key-matched : length k ≡ 10 → (hasKey t k i ≡ true) ↔ (k ≡ keyAt t i)
   key-matched g = (
-    λ e. let m = has-key t k i e in sym (key-is g (m .number) (m .size) (m .word)),
+    λ e. let m = has-key t k i e in sym (key-is g (m .sum) (m .size) (m .word)),
     λ e.
         let at : (j : ℕ) → getD (keyAt t i) j 0 ≡ getD k j 0 = λ j. ap (λ (l : List ℕ). getD l j 0) (sym e) in
         sym (name-decides t k i h (sym (word-at t i h 16) ∙ at 0) (sym (word-at t i h 32) ∙ at 1) (sym (agree-all _ _ 8 (λ j l.
@@ -317,8 +371,8 @@ module _ (t : List ℕ) (s : ℕ) (k : List ℕ) (h : s < 16) where
       (λ l. key-out (32 + i) (λ q. omega arith) (λ q. n (omega arith)) (λ j m q. omega arith))
       (λ j l m. key-out (48 + i * 8 + j) (λ q. omega arith) (λ q. omega arith) (λ x y q. n (omega arith)))
 
-abbrev pub nameLaws : KeyLaws named
-nameLaws =
+abbrev pub namedLaws : KeyColumnLaws named
+namedLaws =
     record {
       Legal = λ k. length k ≡ 10;
       keyAt = keyAt;
@@ -336,42 +390,9 @@ nameLaws =
 
 -- ---- the two kinds
 
-abbrev pub namedTable : {W : Type 0} → Coded W → Table (List ℕ) W
-namedTable = table named nameLaws
+module _ {W : Type 0} {encoding : Encoding W} (E : EncodingLaws encoding) where
+  abbrev pub namedTable : Table (List ℕ) W
+  namedTable = table named namedLaws encoding E
 
-abbrev pub numberedTable : {W : Type 0} → Coded W → Table ℕ W
-numberedTable = table numbered numberLaws
-
--- ---- a check: a frame entered, its value read, and the value that follows set in the slot that it used
-
-module _ {W : Type 0} (code : Coded W) (t : List ℕ) {words : List ℕ} {place : Place} where
-  -- the value that is read is what the table had of the key
-  pub key-value : (k : List ℕ) → record { words = words; place = place } ≡ keyEntered t k
-      → ifKnown (place .known) (code .read (valueWord words 176 (place .slot))) ≡ valueOf (wordTable named code) t k
-  unfolding keyEntered findKey
-  key-value k e =
-      ap (λ (x : Entered). ifKnown (x .place .known) (code .read (valueWord (x .words) 176 (x .place .slot)))) e ∙ sym (value-entered named nameLaws code t k)
-
-  pub number-value : (k : ℕ) → record { words = words; place = place } ≡ numberEntered t k
-      → ifKnown (place .known) (code .read (valueWord words 32 (place .slot))) ≡ valueOf (wordTable numbered code) t k
-  unfolding numberEntered findNumber
-  number-value k e =
-      ap (λ (x : Entered). ifKnown (x .place .known) (code .read (valueWord (x .words) 32 (x .place .slot)))) e ∙ sym (value-entered numbered numberLaws code t k)
-
-  -- and the table is then one frame further
-  module _ {I : Type 0} (fresh : I → W) (step : W → I → W) (i : I) {w : W} {out : List ℕ} where
-    pub key-stepped : (k : List ℕ) → record { words = words; place = place } ≡ keyEntered t k
-        → w ≡ after fresh step (valueOf (wordTable named code) t k) i → out ≡ valueSet words 176 (place .slot) (code .words w)
-        → out ≡ stepped (wordTable named code) fresh step t k i
-    unfolding keyEntered findKey
-    key-stepped k e v o =
-        o ∙ ap (λ (x : Entered). valueSet (x .words) 176 (x .place .slot) (code .words w)) e
-        ∙ ap (λ (x : W). valueSet (keyEntered t k .words) 176 (keyEntered t k .place .slot) (code .words x)) v
-
-    pub number-stepped : (k : ℕ) → record { words = words; place = place } ≡ numberEntered t k
-        → w ≡ after fresh step (valueOf (wordTable numbered code) t k) i → out ≡ valueSet words 32 (place .slot) (code .words w)
-        → out ≡ stepped (wordTable numbered code) fresh step t k i
-    unfolding numberEntered findNumber
-    number-stepped k e v o =
-        o ∙ ap (λ (x : Entered). valueSet (x .words) 32 (x .place .slot) (code .words w)) e
-        ∙ ap (λ (x : W). valueSet (numberEntered t k .words) 32 (numberEntered t k .place .slot) (code .words x)) v
+  abbrev pub numberedTable : Table ℕ W
+  numberedTable = table numbered numberedLaws encoding E

@@ -14,26 +14,26 @@ use Rattle.records.proofs.SearchLaws.{Searched, hit, miss, searched, searched-b
 use Rattle.records.specs.declared.search.Found.{Found}
 use Rattle.records.specs.declared.search.Found.the-variants.{At, Nothing}
 use Rattle.records.specs.Search.{first, slotOr}
-use Rattle.tables.proofs.RankOrder.{Slots as SlotList, placeFrom, lookSlot, withoutSlot, place-from, Order, order-new, order-used, order-length}
+use Rattle.tables.proofs.RankOrder.{Slots, positionFrom, lookSlot, withoutSlot, position-from, Order, order-none, order-used, order-length}
 use Rattle.tables.proofs.RankOrder.{in-use-there, there-in-use, new-slot-below, new-slot-before, new-slot-greatest}
 use Rattle.tables.specs.Order.{newSlot, raised, usedRank}
-use Rattle.tables.specs.WrappingAge.{Ticks, nextTick, ageAt, noTicks, ticked, EqualAges, firstEntry, lastEntry, exceeds, oldestOf, slotByAge, Slots, WrappingAge}
+use Rattle.tables.specs.WrappingAge.{Ticks, nextTick, ageAt, noTicks, ticked, EqualAges, firstEntry, lastEntry, exceeds, oldestOf, slotByAge, AllSlots, WrappingAge}
 
 -- ranks and ticks agree: the slots in use are those of the order, each last used at a tick from 1 on, and one of lesser rank later
-record Agree (rank : ℕ → ℕ) (t : Ticks) : Type 0 where
-  order : SlotList
-  ordered : Order rank order
-  uses : (i : ℕ) → lookSlot i order ≡ cond (t .active i) (some tt) none
-  begun : (i : ℕ) → t .active i ≡ true → 1 ≤ t .lastUsed i
-  past : (i : ℕ) → t .lastUsed i ≤ t .tick
-  later : (i j : ℕ) → rank i < rank j → t .lastUsed j < t .lastUsed i
-  fits : t .tick < 2 ^ 32
+pub record Agrees (rank : ℕ → ℕ) (t : Ticks) : Type 0 where
+  pub order : Slots
+  pub ordered : Order rank order
+  pub uses : (i : ℕ) → lookSlot i order ≡ cond (t .active i) (some tt) none
+  pub begun : (i : ℕ) → t .active i ≡ true → 1 ≤ t .lastUsed i
+  pub past : (i : ℕ) → t .lastUsed i ≤ t .tick
+  pub later : (i j : ℕ) → rank i < rank j → t .lastUsed j < t .lastUsed i
+  pub fits : t .tick < 2 ^ 32
 
 -- they agree in a table without entries
-agree-new : Agree (λ i. 16) noTicks
-agree-new = record {
+pub agrees-none : Agrees (λ i. 16) noTicks
+agrees-none = record {
   order = [];
-  ordered = order-new (λ i h. refl);
+  ordered = order-none (λ i h. refl);
   uses = λ i. refl;
   begun = λ i e. absurd (false≢true e);
   past = λ i. omega arith;
@@ -46,8 +46,8 @@ raised-is : (old x : ℕ) → raised old x ≡ x + (1 - (suc x - old))
 raised-is old x = by-cases (decLt x old) (λ p. rw (lt-ltb x old p) (omega arith)) (λ p. rw (le-ltb x old (omega arith)) (omega arith))
 
 -- they agree after a use whose tick does not wrap
-agree-used : {rank : ℕ → ℕ} {t : Ticks} → Agree rank t → (s : ℕ) → s < 16 → suc (t .tick) < 2 ^ 32 → Agree (usedRank rank s) (ticked t s)
-agree-used {rank} {t} a s h w = record {
+pub agrees-used : {rank : ℕ → ℕ} {t : Ticks} → Agrees rank t → (s : ℕ) → s < 16 → suc (t .tick) < 2 ^ 32 → Agrees (usedRank rank s) (ticked t s)
+agrees-used {rank} {t} a s h w = record {
   order = (s, tt) ∷ withoutSlot s (a .order);
   ordered = order-used (a .ordered) s h (λ i l. refl);
   uses = λ i. by-cases (ℕ-discrete i s) (λ p. rw (eq-eqb i s p) (simp if-pos)) (λ p. rw (ne-eqb i s p) (simp (if-neg, lookup-without) (a .uses i)));
@@ -63,21 +63,21 @@ agree-used {rank} {t} a s h w = record {
 }
 
 -- they agree after any uses of which no tick wraps
-agree-all : (uses : List ℕ) {rank : ℕ → ℕ} {t : Ticks} → Agree rank t → Slots uses → length uses + t .tick < 2 ^ 32
-    → Agree (foldl usedRank rank uses) (foldl ticked t uses)
-agree-all [] a w h = a
-agree-all (s ∷ uses) a w h = agree-all uses (agree-used a s (w .0) (omega arith)) (w .1) (omega arith)
+agrees-all : (uses : List ℕ) {rank : ℕ → ℕ} {t : Ticks} → Agrees rank t → AllSlots uses → length uses + t .tick < 2 ^ 32
+    → Agrees (foldl usedRank rank uses) (foldl ticked t uses)
+agrees-all [] a w h = a
+agrees-all (s ∷ uses) a w h = agrees-all uses (agrees-used a s (w .0) (omega arith)) (w .1) (omega arith)
 
--- slots of one place are one
-place-same : (p i j : ℕ) (o : SlotList) → length o + p ≤ 16 → lookSlot i o ≡ some tt → placeFrom p i o ≡ placeFrom p j o → i ≡ j
-place-same p i j [] n q e = absurd (Option·none-ne-some tt q)
-place-same p i j (f ∷ o) n q e =
-    let least : (k : ℕ) → suc p ≤ placeFrom (suc p) k o = λ k. place-from (suc p) k o (omega arith) (omega arith) in
+-- slots of one position are one
+position-same : (p i j : ℕ) (o : Slots) → length o + p ≤ 16 → lookSlot i o ≡ some tt → positionFrom p i o ≡ positionFrom p j o → i ≡ j
+position-same p i j [] n q e = absurd (Option·none-ne-some tt q)
+position-same p i j (f ∷ o) n q e =
+    let least : (k : ℕ) → suc p ≤ positionFrom (suc p) k o = λ k. position-from (suc p) k o (omega arith) (omega arith) in
     by-cases (ℕ-discrete i (f .0))
     (λ x. by-cases (ℕ-discrete j (f .0)) (λ y. x ∙ sym y) (λ y. absurd (omega (arith, simp (if-pos, if-neg) at e, least j))))
     (λ x. by-cases (ℕ-discrete j (f .0))
     (λ y. absurd (omega (arith, simp (if-pos, if-neg) at e, least i)))
-    (λ y. place-same (suc p) i j o (omega arith) (simp if-neg at q) (simp if-neg at e)))
+    (λ y. position-same (suc p) i j o (omega arith) (simp if-neg at q) (simp if-neg at e)))
 
 -- under either rule, the age that the test prefers is no less than the other
 exceeds-order : (rule : EqualAges) (a b : ℕ) (t : Bool) → exceeds rule a b ≡ t → cond t a b ≤ cond t b a
@@ -101,7 +101,7 @@ oldest-is rule age (suc n) = go (oldestOf rule age n) (oldest-is rule age n) (ex
 abbrev ageOf : Ticks → ℕ → ℕ
 ageOf t i = ageAt (nextTick (t .tick)) (t .lastUsed i)
 
-module _ {rank : ℕ → ℕ} {t : Ticks} (a : Agree rank t) where
+module _ {rank : ℕ → ℕ} {t : Ticks} (a : Agrees rank t) where
   -- a new key takes the first free slot: those before it are in use, so that their ranks are below 16, and its own is not
   first-free : (s : ℕ) → s < 16 → t .active s ≡ false → ((j : ℕ) → j < s → t .active j ≡ true) → newSlot rank ≡ s
   first-free s h e b =
@@ -120,11 +120,11 @@ module _ {rank : ℕ → ℕ} {t : Ticks} (a : Agree rank t) where
       let m = oldest-is rule (ageOf t) 16 in
       let l : o < 16 = omega arith in
       by-cases (ℕ-discrete (rank s) (rank o))
-      (λ e. place-same 0 s o (a .order) (omega (arith, order-length (a .ordered))) (a .uses s ∙ rw (on s b)) (omega (arith, a .ordered .ranked s b, a .ordered .ranked o l)))
+      (λ e. position-same 0 s o (a .order) (omega (arith, order-length (a .ordered))) (a .uses s ∙ rw (on s b)) (omega (arith, a .ordered .ranked s b, a .ordered .ranked o l)))
       (λ e. absurd (omega (arith, a .later o s (omega (arith, new-slot-greatest (a .ordered) o l)), m .1 s b, a .begun s (on s b), a .past o)))
 
   -- a new key takes one slot by ranks and by ages
-  agreed : (rule : EqualAges) → newSlot rank ≡ slotByAge rule t
+  pub agreed : (rule : EqualAges) → newSlot rank ≡ slotByAge rule t
   unfolding slotByAge
   agreed rule = go (first free) refl (searched free 0 16)
     where
@@ -137,4 +137,4 @@ module _ {rank : ℕ → ℕ} {t : Ticks} (a : Agree rank t) where
 
 -- the claim: up to 4,294,967,295 uses wrap no tick
 pub wrapping-age : WrappingAge
-wrapping-age rule uses w h = agreed (agree-all uses agree-new w (omega arith)) rule
+wrapping-age rule uses w h = agreed (agrees-all uses agrees-none w (omega arith)) rule

@@ -1,4 +1,4 @@
--- The words of a slot: each column of a table has sixteen words, one for each slot.
+-- The words of a slot in the columns of single words, sixteen of them, one for each slot.
 use Prim.Native.Nat.{ℕ, _+_}
 use mathlib.Core.Bool.{cond}
 use mathlib.Core.List.{List}

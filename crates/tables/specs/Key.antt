@@ -1,4 +1,5 @@
--- Keys of tables by name (01, "Remembered tables", "MMS and GOOSE frames"): ten words, made of a number and of a name of at most 64 octets.
+-- Keys of tables by name (01, "Remembered tables", "MMS and GOOSE frames"): ten words, made of a number and of a name of at most 64 octets. The
+-- number is the address of a GOOSE stream (02, ask 8), the kind of a reservation, and 0 for an SV stream.
 use Prim.Native.Nat.{ℕ, zero, suc, _+_, _*_, _%_, _^_}
 use mathlib.Core.List.{List, _∷_}
 use lib.ListN.{length}
@@ -18,6 +19,6 @@ unfoldable pub summed : ℕ → (ℕ → ℕ) → ℕ → ℕ
 summed number word zero = number
 summed number word (suc n) = (summed number word n + word n) % 2 ^ 64
 
--- the key: the number with the words of the name added, so that a search compares one word of most slots; the name's length; its eight words
+-- the key: the sum, the number with the words of the name added, so that a search compares one word of most slots; the name's length; its words
 unfoldable pub keyOf : ℕ → List ℕ → List ℕ
 keyOf number name = summed number (nameWord name) 8 ∷ length name ∷ tabulate (nameWord name) 8

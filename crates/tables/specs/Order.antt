@@ -1,12 +1,13 @@
--- The order of use of a table's sixteen slots (01, "Remembered tables": a full table gives up its oldest entry). A slot's rank is 0 where it was
--- used last, up to 15, and 16 where it is free. A table is a list of words; the first sixteen are the ranks.
+-- The order of use of a table's sixteen slots (01, "Remembered tables": a full table gives up its oldest entry; 02, ask 9: the order is stored). A
+-- slot's rank is 0 where it was used last, up to 15, and 16 where it is free. A table is a list of words; the first sixteen are the ranks.
 use Prim.Native.Nat.{ℕ, _+_, _-_}
-use mathlib.Core.Bool.{Bool, _&&_, cond}
+use mathlib.Core.Bool.{Bool, _&&_, not, cond}
 use mathlib.Core.List.{List}
 use lib.Dec.{eqb, ltb, leb}
 use lib.ListN.{getD}
+use Rattle.records.specs.declared.search.Found.{Found}
 use Rattle.records.specs.Name.{tabulate, overwritten}
-use Rattle.records.specs.Search.{firstFrom, slotOr}
+use Rattle.records.specs.Search.{first, firstFrom, slotOr}
 
 -- the rank of a slot
 abbrev pub rankOf : List ℕ → ℕ → ℕ
@@ -16,6 +17,10 @@ rankOf t slot = getD t slot 0
 abbrev pub inUse : (ℕ → ℕ) → ℕ → Bool
 inUse rank slot = ltb (rank slot) 16
 
+-- the first free slot
+unfoldable pub freeSlot : (ℕ → ℕ) → Found
+freeSlot rank = first (λ i. not (inUse rank i))
+
 -- the slot that a new key takes: the first of rank 15 or more, which is free or else the oldest; where none of the first fifteen is, the last
 unfoldable pub newSlot : (ℕ → ℕ) → ℕ
 newSlot rank = slotOr 15 (firstFrom (λ i. leb 15 (rank i)) 0 15)
@@ -24,7 +29,7 @@ newSlot rank = slotOr 15 (firstFrom (λ i. leb 15 (rank i)) 0 15)
 abbrev pub raised : ℕ → ℕ → ℕ
 raised old rank = cond (ltb rank old) (rank + 1) rank
 
--- a slot that is forgotten lowers the ranks above its own, but for those of free slots
+-- an entry that is forgotten (02, ask 14) lowers the ranks above its own, but for those of free slots
 abbrev pub lowered : ℕ → ℕ → ℕ
 lowered old rank = cond (ltb old rank && ltb rank 16) (rank - 1) rank
 

@@ -1,6 +1,6 @@
 -- 01's wrapping age (01, "Remembered tables": a full table, buckets included, gives up the entry with the greatest wrapping age; of equal ages the
--- bucket table takes the last entry, the others the first), and the claim that the stored order of use gives up the same entry. Only this claim
--- speaks of ticks.
+-- bucket table takes the last entry, the others the first), and the claim that the stored order of use gives up the same entry. Nothing else of this
+-- crate speaks of ticks.
 use Prim.Native.Nat.{ℕ, zero, suc, _+_, _-_, _%_, _^_, _≤_, _<_}
 use mathlib.Core.Bool.{Bool, true, false, not, cond}
 use mathlib.Core.List.{List, [], _∷_, foldl}
@@ -8,7 +8,9 @@ use mathlib.Core.Path.{_≡_}
 use lib.Dec.{eqb, ltb, leb}
 use lib.ListN.{length}
 use Rattle.records.specs.Search.{first, slotOr}
+use Rattle.records.specs.Remembered.{after}
 use Rattle.tables.specs.Order.{newSlot, usedRank}
+use Rattle.tables.specs.Table.{Columns, slotOf, valueOf}
 
 -- ---- ticks, as 01 has them
 
@@ -44,10 +46,10 @@ pub data EqualAges : Type 0 where
   firstEntry : EqualAges
   lastEntry : EqualAges
 
--- whether a later slot goes in place of an earlier one
+-- whether a slot behind another goes in its place, by the ages of both
 abbrev pub exceeds : EqualAges → ℕ → ℕ → Bool
-exceeds firstEntry earlier later = ltb earlier later
-exceeds lastEntry earlier later = leb earlier later
+exceeds firstEntry front behind = ltb front behind
+exceeds lastEntry front behind = leb front behind
 
 -- the slot of the greatest age among the first n
 unfoldable pub oldestOf : EqualAges → (ℕ → ℕ) → ℕ → ℕ
@@ -58,12 +60,25 @@ oldestOf rule age (suc n) = cond (exceeds rule (age (oldestOf rule age n)) (age 
 unfoldable pub slotByAge : EqualAges → Ticks → ℕ
 slotByAge rule t = slotOr (oldestOf rule (λ i. ageAt (nextTick (t .tick)) (t .lastUsed i)) 16) (first (λ i. not (t .active i)))
 
--- ---- the claim
+-- a table and its ticks
+module _ {T K W I : Type 0} (C : Columns T K W) (rule : EqualAges) (fresh : I → W) (step : W → I → W) where
+  -- the slot that a frame of a key uses: the one that has the key, or the one that its age gives a new key
+  abbrev pub targetByAge : T × Ticks → K → ℕ
+  targetByAge s k = slotOr (slotByAge rule (s .1)) (slotOf C (s .0) k)
 
--- slots of a table
-abbrev pub Slots : List ℕ → Type 0
-Slots [] = Unit {0}
-Slots (s ∷ uses) = (s < 16) × Slots uses
+  -- after a frame, a key and its input, as `stepped` has it of the table alone (Table)
+  abbrev pub steppedByAge : T × Ticks → K × I → T × Ticks
+  steppedByAge s x = (
+    C .store (s .0) (targetByAge s (x .0)) (x .0) (after fresh step (valueOf C (s .0) (x .0)) (x .1)),
+    ticked (s .1) (targetByAge s (x .0)),
+  )
+
+-- ---- the claim, over the uses of slots
+
+-- each is one of the sixteen
+abbrev pub AllSlots : List ℕ → Type 0
+AllSlots [] = Unit {0}
+AllSlots (s ∷ uses) = (s < 16) × AllSlots uses
 
 -- the ranks that uses of slots, the earliest first, leave in a table without entries, and the ticks that they leave
 abbrev pub ranksAfter : List ℕ → ℕ → ℕ
@@ -72,7 +87,7 @@ ranksAfter uses = foldl usedRank (λ i. 16) uses
 abbrev pub ticksAfter : List ℕ → Ticks
 ticksAfter uses = foldl ticked noTicks uses
 
--- after up to 4,294,967,295 uses a new key takes the slot that 01's ages give it
+-- after up to 4,294,967,295 uses (02, ask 9) a new key takes the slot that 01's ages give it
 abbrev pub WrappingAge : Type 0
 WrappingAge =
-    (rule : EqualAges) (uses : List ℕ) → Slots uses → length uses ≤ 4294967295 → newSlot (ranksAfter uses) ≡ slotByAge rule (ticksAfter uses)
+    (rule : EqualAges) (uses : List ℕ) → AllSlots uses → length uses ≤ 4294967295 → newSlot (ranksAfter uses) ≡ slotByAge rule (ticksAfter uses)

@@ -1,10 +1,10 @@
-// The words of a slot: each column of a table has sixteen words, one for each slot.
+// The words of a slot in the columns of single words, sixteen of them, one for each slot.
 ghost use mathlib.Core.Path.{_≡_};
 ghost use Prim.Native.Nat.{_+_, _≤_};
 ghost use lib.ListN.{length};
 ghost use Rattle.tables.specs.Column.{wordOf, wordSet};
 
-// The word of a slot in the column that begins at a place; a slot of 16 or more has 0.
+// The word of a slot in the column that begins there; a slot of 16 or more has 0.
 pub fn word(t: &[u64], column: usize, slot: usize) -> u64
     requires { ⌜ column + 16 ≤ length (now t) ⌝ }
     ensures { λ r. ⌜ r ≡ wordOf (now (t .entry)) column slot ⌝ }

@@ -13,7 +13,7 @@ fn wide(x: u8) -> u64
     x as u64
 }
 
-// Two, four and eight octets as a number, the first the least. Sums of products in this shape are one load.
+// Two, four and eight octets as a number, the first the least. Sums of products in this shape are compiled to one load.
 fn u16_from_le(a: u8, b: u8) -> u64
     ensures { λ r. ⌜ r ≡ a + 256 * b ⌝ }
 {
@@ -32,7 +32,7 @@ fn u64_from_le(a: u8, b: u8, c: u8, d: u8, e: u8, f: u8, g: u8, h: u8) -> u64
     u32_from_le(a, b, c, d) + 4294967296 * u32_from_le(e, f, g, h)
 }
 
-// The word of eight octets from a place on.
+// The word of eight octets from a start on.
 fn word_at(octets: &[u8; 64], start: usize) -> u64
     requires { ⌜ start ≤ 56 ⌝ }
     ensures { λ r. ⌜ r ≡ packed (λ j. octetAt (now (octets .entry)) (start + j)) 8 ⌝ }

@@ -1,22 +1,25 @@
-// Tables by name: ranks, numbers, lengths, names of eight words each, values. A key is ten words (key.rt).
+// Tables by name: ranks, sums, lengths, names of eight words each, values. A key is ten words (key.rt).
 ghost use mathlib.Core.Path.{_≡_};
 ghost use Prim.Native.Nat.{_+_, _≤_};
 ghost use lib.ListN.{length, getD};
 ghost use Rattle.records.specs.Name.{agree, overwritten};
-ghost use Rattle.tables.specs.Named.{hasKey, findKey, keyStored, keyEntered};
+ghost use Rattle.tables.specs.Named.{hasKey, keyStored, named};
+ghost use Rattle.tables.specs.Place.{found, entered};
 use crate::order::new_slot;
 use crate::order::use_slot;
 use crate::place::Place;
 use records::search::Found;
 
 // Where the columns begin.
-const NUMBERS: usize = 16;
+const SUMS: usize = 16;
 
 const LENGTHS: usize = 32;
 
 const NAMES: usize = 48;
 
-// Whether the eight words from a place on are those of a key's name. Most names differ in their first words, so it ends at the first that differs.
+pub const VALUES: usize = 176;
+
+// Whether the eight words from a start on are those of a key's name.
 fn has_name(t: &[u64], start: usize, key: &[u64; 10]) -> bool
     requires { ⌜ start + 8 ≤ length (now t) ⌝ }
     ensures { λ r. ⌜ r ≡ agree (λ k. getD (now (t .entry)) (start + k) 0) (λ k. getD (now (key .entry)) (k + 2) 0) 8 ⌝ }
@@ -41,7 +44,7 @@ pub fn has_key(t: &[u64], slot: usize, key: &[u64; 10]) -> bool
     if slot >= 16 {
         return false;
     }
-    if t[NUMBERS + slot] != key[0] {
+    if t[SUMS + slot] != key[0] {
         return false;
     }
     if t[LENGTHS + slot] != key[1] {
@@ -53,7 +56,7 @@ pub fn has_key(t: &[u64], slot: usize, key: &[u64; 10]) -> bool
 // The first slot in use that has this key.
 pub fn find_key(t: &[u64], key: &[u64; 10]) -> Found
     requires { ⌜ 176 ≤ length (now t) ⌝ }
-    ensures { λ r. ⌜ r ≡ findKey (now (t .entry)) (now (key .entry)) ⌝ }
+    ensures { λ r. ⌜ r ≡ found named (now (t .entry)) (now (key .entry)) ⌝ }
 {
     let mut i: usize = 0;
     loop {
@@ -67,7 +70,7 @@ pub fn find_key(t: &[u64], key: &[u64; 10]) -> Found
     }
 }
 
-// Stores the name of a key in the eight words from a place on.
+// Stores the name of a key in the eight words from a start on.
 fn store_name(t: &mut [u64], start: usize, key: &[u64; 10])
     requires { ⌜ start + 8 ≤ length (now t) ⌝ }
     ensures { λ _. ⌜ now (t .exit) ≡ overwritten (now (t .entry)) start (λ k. getD (now (key .entry)) (k + 2) 0) 8 ⌝ }
@@ -87,7 +90,7 @@ pub fn store_key(t: &mut [u64], slot: usize, key: &[u64; 10])
     if slot >= 16 {
         return;
     }
-    t[NUMBERS + slot] = key[0];
+    t[SUMS + slot] = key[0];
     t[LENGTHS + slot] = key[1];
     store_name(t, NAMES + slot * 8, key);
 }
@@ -95,7 +98,7 @@ pub fn store_key(t: &mut [u64], slot: usize, key: &[u64; 10])
 // A frame of a key: uses its slot, and for a new key the slot that it takes, where the key is then stored.
 pub fn enter_key(t: &mut [u64], key: &[u64; 10]) -> Place
     requires { ⌜ 176 ≤ length (now t) ⌝ }
-    ensures { λ r. ⌜ record { words = now (t .exit); place = r } ≡ keyEntered (now (t .entry)) (now (key .entry)) ⌝ }
+    ensures { λ r. ⌜ record { table = now (t .exit); place = r } ≡ entered named (now (t .entry)) (now (key .entry)) ⌝ }
 {
     match find_key(t, key) {
         Found::At(i) => {

@@ -2,20 +2,23 @@
 ghost use mathlib.Core.Path.{_≡_};
 ghost use Prim.Native.Nat.{_≤_};
 ghost use lib.ListN.{length};
-ghost use Rattle.tables.specs.Numbered.{findNumber, numberEntered};
+ghost use Rattle.tables.specs.Numbered.{numbered};
+ghost use Rattle.tables.specs.Place.{found, entered};
 use crate::column::set_word;
 use crate::order::new_slot;
 use crate::order::use_slot;
 use crate::place::Place;
 use records::search::Found;
 
-// Where the numbers begin.
+// Where the columns begin.
 const NUMBERS: usize = 16;
+
+pub const VALUES: usize = 32;
 
 // The first slot in use that has this number.
 pub fn find_number(t: &[u64], number: u64) -> Found
     requires { ⌜ 32 ≤ length (now t) ⌝ }
-    ensures { λ r. ⌜ r ≡ findNumber (now (t .entry)) number ⌝ }
+    ensures { λ r. ⌜ r ≡ found numbered (now (t .entry)) number ⌝ }
 {
     let mut i: usize = 0;
     loop {
@@ -32,7 +35,7 @@ pub fn find_number(t: &[u64], number: u64) -> Found
 // A frame of a number: uses its slot, and for a new number the slot that it takes, where the number is then stored.
 pub fn enter_number(t: &mut [u64], number: u64) -> Place
     requires { ⌜ 32 ≤ length (now t) ⌝ }
-    ensures { λ r. ⌜ record { words = now (t .exit); place = r } ≡ numberEntered (now (t .entry)) number ⌝ }
+    ensures { λ r. ⌜ record { table = now (t .exit); place = r } ≡ entered numbered (now (t .entry)) number ⌝ }
 {
     match find_number(t, number) {
         Found::At(i) => {

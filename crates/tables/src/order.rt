@@ -3,7 +3,25 @@
 ghost use mathlib.Core.Path.{_≡_};
 ghost use Prim.Native.Nat.{_≤_};
 ghost use lib.ListN.{length};
-ghost use Rattle.tables.specs.Order.{rankOf, newSlot, raised, lowered, usedSlot, forgottenSlot, noEntries};
+ghost use Rattle.tables.specs.Order.{rankOf, freeSlot, newSlot, raised, lowered, usedSlot, forgottenSlot, noEntries};
+use records::search::Found;
+
+// The first free slot.
+pub fn free_slot(t: &[u64]) -> Found
+    requires { ⌜ 16 ≤ length (now t) ⌝ }
+    ensures { λ r. ⌜ r ≡ freeSlot (rankOf (now (t .entry))) ⌝ }
+{
+    let mut i: usize = 0;
+    loop {
+        if i >= 16 {
+            break Found::Nothing;
+        }
+        if t[i] >= 16 {
+            break Found::At(i);
+        }
+        i += 1;
+    }
+}
 
 // The slot that a new key takes: the first of rank 15 or more, which is free or else the oldest, or the last slot.
 pub fn new_slot(t: &[u64]) -> usize

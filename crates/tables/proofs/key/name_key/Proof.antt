@@ -13,12 +13,12 @@ use Rattle.tables.proofs.key.name_key.Statement.{statement}
 use Rattle.tables.proofs.key.name_key.Tie as tie
 
 -- the words of padded octets
-abbrev wordOf : List ℕ → ℕ → ℕ
-wordOf name k = packed (λ j. octetAt name (k * 8 + j)) 8
+abbrev paddedWord : List ℕ → ℕ → ℕ
+paddedWord name k = packed (λ j. octetAt name (k * 8 + j)) 8
 
 abbrev Inv-loop : tie.InvT-loop
 Inv-loop number len valid name key₀ sum₀ k₀ key sum k =
-    (k ≤ 8) × (sum ≡ summed number (wordOf name) k) × (key ≡ overwritten (replicate 10 0) 2 (wordOf name) k)
+    (k ≤ 8) × (sum ≡ summed number (paddedWord name) k) × (key ≡ overwritten (replicate 10 0) 2 (paddedWord name) k)
 
 abbrev μ-loop : tie.MeasureT-loop
 μ-loop number len valid name key₀ sum₀ k₀ key sum k = 8 - k

@@ -8,7 +8,8 @@ use borrow.Author.Needs.{needs}
 use Rattle.records.proofs.Booleans.{and-yes, and-no}
 use Rattle.records.proofs.SearchLaws.{Reached, reached-first, reached-end, reached-hit, reached-next}
 use Rattle.tables.specs.Order.{rankOf, inUse}
-use Rattle.tables.specs.Named.{hasKey, findKey}
+use Rattle.tables.specs.Named.{hasKey}
+use Rattle.tables.specs.Place.{found}
 use Rattle.tables.proofs.named.find_key.Statement.{statement}
 use Rattle.tables.proofs.named.find_key.Tie as tie
 
@@ -25,11 +26,11 @@ loop-again c =
     (⊎-elim (λ w. and-yes (sym (h .has-key .ensures) ∙ w .0 .taken) (w .2 .left)) (λ w. and-no _ (sym (h .has-key .ensures) ∙ w .left)) (c .if2 .came))
 
 returns : tie.Need-returns Inv-loop μ-loop
-unfolding findKey
+unfolding found
 returns c = reached-end (c .before .loop .inv) (omega arith)
 
 returns-2 : tie.Need-returns-2 Inv-loop μ-loop
-unfolding findKey
+unfolding found
 returns-2 c =
     let d = c .before .before in
     let h = d .before in

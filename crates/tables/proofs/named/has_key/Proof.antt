@@ -1,14 +1,14 @@
 -- `has_key` meets its contract.
 use borrow.Author.Needs.{needs}
-use Rattle.tables.proofs.NamedLaws.{key-far, number-differs, length-differs, name-decides}
+use Rattle.tables.proofs.NamedLaws.{key-outside, sum-differs, length-differs, name-decides}
 use Rattle.tables.proofs.named.has_key.Statement.{statement}
 use Rattle.tables.proofs.named.has_key.Tie as tie
 
 returns : tie.Need-returns
-returns c = key-far _ _ _ (c .if1 .taken)
+returns c = key-outside _ _ _ (c .if1 .taken)
 
 returns-2 : tie.Need-returns-2
-returns-2 c = number-differs _ _ _ (c .before .before .before .if1 .left) (c .if2 .taken)
+returns-2 c = sum-differs _ _ _ (c .before .before .before .if1 .left) (c .if2 .taken)
 
 returns-3 : tie.Need-returns-3
 returns-3 c =

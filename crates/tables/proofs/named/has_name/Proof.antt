@@ -4,8 +4,7 @@ use mathlib.Core.Bool.{true}
 use Prim.Native.Nat.{_≤_, _-_, _+_}
 use lib.ListN.{getD}
 use Rattle.records.specs.Name.{agree}
-use Rattle.records.proofs.NameLaws.{agree-more}
-use Rattle.tables.proofs.NamedLaws.{agree-no}
+use Rattle.records.proofs.NameLaws.{agree-more, agree-no}
 use native.Mathlib.Omega.{arith}
 use Rattle.tables.proofs.named.has_name.Statement.{statement}
 use Rattle.tables.proofs.named.has_name.Tie as tie

@@ -5,7 +5,8 @@ use mathlib.Core.Logic.{⊎-elim}
 use Prim.Native.Nat.{_-_}
 use borrow.Author.Tests.{eq-eqb, ne-eqb}
 use Rattle.tables.specs.Order.{rankOf, inUse}
-use Rattle.tables.specs.Numbered.{hasNumber, findNumber}
+use Rattle.tables.specs.Numbered.{hasNumber}
+use Rattle.tables.specs.Place.{found}
 use Rattle.records.proofs.Booleans.{and-yes, and-no}
 use Rattle.records.proofs.SearchLaws.{Reached, reached-first, reached-end, reached-hit, reached-next}
 use native.Mathlib.Omega.{arith}
@@ -27,11 +28,11 @@ loop-again c =
     (⊎-elim (λ w. and-yes (eq-eqb _ _ (w .0 .taken)) (w .2 .left)) (λ w. and-no _ (ne-eqb _ _ (w .left))) (c .if2 .came))
 
 returns : tie.Need-returns Inv-loop μ-loop
-unfolding findNumber
+unfolding found
 returns c = reached-end (c .before .loop .inv) (omega arith)
 
 returns-2 : tie.Need-returns-2 Inv-loop μ-loop
-unfolding findNumber
+unfolding found
 returns-2 c =
     reached-hit (c .before .before .before .before .before .loop .inv) (omega arith) refl
     (and-yes (eq-eqb _ _ (c .before .before .if2 .taken)) (c .if3 .taken))

@@ -4,7 +4,7 @@ use Prim.Native.Nat.{_≤_, _-_}
 use lib.ListN.{length, length-set}
 use Rattle.records.specs.Name.{overwritten}
 use Rattle.tables.specs.Order.{rankOf, lowered}
-use Rattle.tables.proofs.OrderLaws.{forget-more, forget-far, forget-free, forget-done}
+use Rattle.tables.proofs.OrderLaws.{forget-more, forget-outside, forget-free, forget-done}
 use native.Mathlib.Omega.{arith}
 use borrow.Author.Needs.{needs}
 use Rattle.tables.proofs.order.forget_slot.Statement.{statement}
@@ -17,7 +17,7 @@ abbrev μ-loop : tie.MeasureT-loop
 μ-loop t₀ slot old i₀ t i = 16 - i
 
 returns : tie.Need-returns Inv-loop μ-loop
-returns c = forget-far _ _ (c .if1 .taken)
+returns c = forget-outside _ _ (c .if1 .taken)
 
 returns-2 : tie.Need-returns-2 Inv-loop μ-loop
 returns-2 c = forget-free _ _ (c .before .before .if1 .left) (c .if2 .taken)

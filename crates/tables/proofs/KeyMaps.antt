@@ -1,4 +1,4 @@
--- The keys of the tables of words: numbers and names for their ten words, a name alone where all have one number, and numbers as they are.
+-- The key maps of the tables of words: numbers and names to their ten words, names alone where all have one number, and numbers as they are.
 use Prim.Native.Nat.{ℕ}
 use mathlib.Core.List.{List}
 use mathlib.Core.Path.{_≡_}
@@ -7,19 +7,19 @@ use native.Mathlib.Omega.{arith}
 use lib.ListN.{length}
 use Rattle.records.proofs.NameLaws.{length-tabulate}
 use Rattle.records.specs.Decide.{decidePair, decideList}
-use Rattle.tables.proofs.KeyedTables.{Keying}
+use Rattle.tables.proofs.KeyedTables.{KeyMap}
 use Rattle.tables.proofs.KeyLaws.{LegalKey, key-injective}
-use Rattle.tables.proofs.WordTables.{namedTable, numberedTable}
+use Rattle.tables.proofs.WordTables.{EncodingLaws, namedTable, numberedTable}
 use Rattle.tables.specs.Key.{nameWord, keyOf}
-use Rattle.tables.specs.WordTable.{Coded}
+use Rattle.tables.specs.WordTable.{Encoding}
 
 pub key-words : (number : ℕ) (name : List ℕ) → length (keyOf number name) ≡ 10
 unfolding keyOf
 key-words number name = omega (arith, length-tabulate (nameWord name) 8)
 
-module _ {W : Type 0} (code : Coded W) where
+module _ {W : Type 0} {encoding : Encoding W} (E : EncodingLaws encoding) where
   -- a number and a name
-  abbrev pub byNumberAndName : Keying (ℕ × List ℕ) (namedTable code)
+  abbrev pub byNumberAndName : KeyMap (ℕ × List ℕ) (namedTable E)
   byNumberAndName =
       record {
         decide = decidePair ℕ-discrete (decideList ℕ-discrete);
@@ -31,7 +31,7 @@ module _ {W : Type 0} (code : Coded W) where
       }
 
   -- a name, all with this number
-  abbrev pub byName : (number : ℕ) → Keying (List ℕ) (namedTable code)
+  abbrev pub byName : (number : ℕ) → KeyMap (List ℕ) (namedTable E)
   byName number =
       record {
         decide = decideList ℕ-discrete;
@@ -43,7 +43,7 @@ module _ {W : Type 0} (code : Coded W) where
       }
 
   -- a number
-  abbrev pub byNumber : Keying ℕ (numberedTable code)
+  abbrev pub byNumber : KeyMap ℕ (numberedTable E)
   byNumber =
       record {
         decide = ℕ-discrete;
