@@ -1,0 +1,5 @@
+pub mod SvSeqLaws
+pub mod TimeFieldLaws
+pub mod GooseSeqLaws
+pub mod RateLaws
+pub mod TablesRemembered

@@ -1,0 +1,49 @@
+-- Laws of rates: the check carried out on the words of the table.
+use Prim.Native.Nat.{ℕ, _≤_}
+use mathlib.Core.Bool.{Bool, true, false}
+use mathlib.Core.List.{List}
+use mathlib.Core.Path.{_≡_, refl, ap, _∙_}
+use native.Mathlib.Omega.{arith}
+use Rattle.records.specs.declared.bucket.BucketCall.{BucketCall}
+use Rattle.records.specs.declared.bucket.RateBucket.{RateBucket}
+use Rattle.records.specs.Remembered.{after}
+use Rattle.tables.proofs.WordTables.{threeLaws, numberedLaws, value-read, value-stored}
+use Rattle.tables.specs.declared.place.Place.{Place}
+use Rattle.tables.specs.Column.{wordOf, wordSet}
+use Rattle.tables.specs.Numbered.{numbered}
+use Rattle.tables.specs.Place.{entered, ifKnown}
+use Rattle.tables.specs.Table.{valueOf}
+use Rattle.tables.specs.WordTable.{threeNumbers}
+use Rattle.checks.specs.Rate.{bucketOf, bucketWords, buckets, bucketCall, keptCall, newBucket, nextBucket, rateChecked}
+
+-- 80 words are so many at least
+pub long-enough : {n : ℕ} → n ≡ 80 → (m : ℕ) → m ≤ 80 → m ≤ n
+long-enough e m h = omega arith
+
+-- a call of the bucket that is kept
+kept-call : (known : Bool) (w : (ℕ × ℕ) × ℕ) (request : ℕ × ℕ) → bucketCall (ifKnown known (bucketOf w)) request ≡ keptCall (ifKnown known w) request
+kept-call true w request = refl
+kept-call false w request = refl
+
+bucket-after : (known : Bool) (w : (ℕ × ℕ) × ℕ) (request : ℕ × ℕ)
+    → bucketWords (keptCall (ifKnown known w) request .bucket) ≡ after newBucket nextBucket (ifKnown known w) request
+bucket-after true w request = refl
+bucket-after false w request = refl
+
+module _ (t : List ℕ) (key rate time : ℕ) {words first second out : List ℕ} {place : Place} {a b c : ℕ} {kept : RateBucket} {call : BucketCall} where
+  pub rate-checked : record { table = words; place = place } ≡ entered numbered t key
+      → a ≡ wordOf words 32 (place .slot) → b ≡ wordOf words 48 (place .slot) → c ≡ wordOf words 64 (place .slot)
+      → kept ≡ bucketOf ((a, b), c) → call ≡ bucketCall (ifKnown (place .known) kept) (rate, time)
+      → first ≡ wordSet words 32 (place .slot) (call .bucket .tokens) → second ≡ wordSet first 48 (place .slot) (call .bucket .capacity)
+      → out ≡ wordSet second 64 (place .slot) (call .bucket .«last_refill_us»)
+      → record { table = out; allowed = call .allowed } ≡ rateChecked t key rate time
+  unfolding rateChecked
+  rate-checked e ea eb ec k l x y z =
+      let w : (ℕ × ℕ) × ℕ = ((a, b), c) in
+      let v : ifKnown (place .known) w ≡ valueOf buckets t key = ap (ifKnown (place .known)) (λ i. ((ea i, eb i), ec i)) ∙ value-read numbered numberedLaws threeNumbers threeLaws t key e in
+      let m = l ∙ ap (λ (r : RateBucket). bucketCall (ifKnown (place .known) r) (rate, time)) k ∙ kept-call (place .known) w (rate, time) in
+      let n = ap (λ (r : BucketCall). bucketWords (r .bucket)) m ∙ bucket-after (place .known) w (rate, time) ∙ ap (λ x. after newBucket nextBucket x (rate, time)) v in
+      let o = z ∙ ap (λ (u : List ℕ). wordSet u 64 (place .slot) (call .bucket .«last_refill_us»)) (y ∙ ap (λ (u : List ℕ). wordSet u 48 (place .slot) (call .bucket .capacity)) x) in
+      let p = value-stored numbered numberedLaws threeNumbers threeLaws t key e newBucket nextBucket (rate, time) {w = bucketWords (call .bucket)} n o in
+      let q = ap (λ (r : BucketCall). r .allowed) m ∙ ap (λ x. keptCall x (rate, time) .allowed) v in
+      λ i. record { table = p i; allowed = q i }

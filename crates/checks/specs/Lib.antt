@@ -1,0 +1,4 @@
+pub mod SvSeq
+pub mod TimeField
+pub mod GooseSeq
+pub mod Rate
