@@ -2,4 +2,5 @@ pub mod SvSeqLaws
 pub mod TimeFieldLaws
 pub mod GooseSeqLaws
 pub mod RateLaws
+pub mod ReservationLaws
 pub mod TablesRemembered
