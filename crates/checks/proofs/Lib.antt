@@ -3,4 +3,5 @@ pub mod TimeFieldLaws
 pub mod GooseSeqLaws
 pub mod RateLaws
 pub mod ReservationLaws
+pub mod RuleLaws
 pub mod TablesRemembered

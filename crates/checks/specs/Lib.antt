@@ -3,3 +3,7 @@ pub mod TimeField
 pub mod GooseSeq
 pub mod Rate
 pub mod Reservation
+pub mod Rules
+pub mod MmsRule
+pub mod GoosePublisher
+pub mod SvPublisher

@@ -1,6 +1,10 @@
-// The checks of the monitor that remember something, each over the words of its table.
+// The parts of the monitor and their checks, each over the words of its part: rules, tables that remember something, reservations.
+pub mod goose_publisher;
 pub mod goose_seq;
+pub mod mms_rule;
 pub mod rate;
 pub mod reservation;
+pub mod rules;
+pub mod sv_publisher;
 pub mod sv_seq;
 pub mod time_field;

@@ -1,0 +1,29 @@
+-- GOOSE publishers (01, "Rules": a rule with an empty name fits any name of its address). Addresses, the key columns of a table by name, and the
+-- count at word 176.
+use Prim.Native.Nat.{ℕ, _+_}
+use mathlib.Core.Bool.{Bool, _&&_, _||_}
+use mathlib.Core.List.{List}
+use lib.Dec.{eqb}
+use lib.ListN.{getD, set}
+use Rattle.records.specs.declared.search.Found.{Found}
+use Rattle.records.specs.Search.{firstFrom}
+use Rattle.tables.specs.Column.{wordOf, wordSet}
+use Rattle.tables.specs.Named.{hasKey, keyStored}
+use Rattle.checks.specs.Rules.{ruleCount, addAnswer, RuleAdded, ruleAdded}
+
+-- whether the rule at a place fits an address and a control block's name
+unfoldable pub gooseFitsAt : List ℕ → ℕ → List ℕ → ℕ → Bool
+gooseFitsAt p address name i = eqb (wordOf p 0 i) address && (eqb (wordOf p 32 i) 0 || hasKey p name i)
+
+-- the place of the first rule that fits
+unfoldable pub goosePublisher : List ℕ → ℕ → List ℕ → Found
+goosePublisher p address name = firstFrom (gooseFitsAt p address name) 0 (ruleCount (getD p 176 0))
+
+-- with one more rule at a place, behind the others
+unfoldable pub withGoosePublisher : List ℕ → ℕ → ℕ → List ℕ → List ℕ
+withGoosePublisher p i address name = set (keyStored (wordSet p 0 i address) i name) 176 (i + 1)
+
+-- an add call with a name of this length
+unfoldable pub gooseAdded : List ℕ → ℕ → List ℕ → ℕ → RuleAdded
+gooseAdded p address name nameLength =
+    ruleAdded (addAnswer (getD p 176 0) nameLength) (withGoosePublisher p (ruleCount (getD p 176 0)) address name) p

@@ -1,0 +1,36 @@
+-- Rule lists (01, "Rules": at most 16 of each kind; "Refusals in checking order", 1 and 2).
+use Prim.Native.Nat.{ℕ, min}
+use mathlib.Core.Bool.{cond}
+use mathlib.Core.List.{List}
+use mathlib.Core.Option.{Option, none, some}
+use lib.Dec.{ltb, leb}
+use Rattle.records.specs.declared.error.VsError.the-variants.{ResourceExhausted, InvalidInput}
+use Rattle.records.specs.Error.{errorNumber}
+use Rattle.checks.specs.declared.rules.Added.{Added}
+use Rattle.checks.specs.declared.rules.Added.the-variants.{Rule, Error}
+
+-- how many rules a count says; above 16 it counts as 16
+abbrev pub ruleCount : ℕ → ℕ
+ruleCount count = min count 16
+
+-- 1. on 16 rules ResourceExhausted (6); 2. a name over 64 octets InvalidInput (9)
+unfoldable pub addAnswer : ℕ → ℕ → Added
+addAnswer count nameLength = cond (ltb count 16) (cond (leb nameLength 64) Rule (Error InvalidInput)) (Error ResourceExhausted)
+
+-- the rules after an add call, and its answer
+pub record RuleAdded : Type 0 where
+  pub rules : List ℕ
+  pub answer : Added
+
+-- a refused call changes nothing
+abbrev pub ifAdded : Added → List ℕ → List ℕ → List ℕ
+ifAdded Rule new old = new
+ifAdded (Error e) new old = old
+
+abbrev pub ruleAdded : Added → List ℕ → List ℕ → RuleAdded
+ruleAdded answer new old = record { rules = ifAdded answer new old; answer = answer }
+
+-- the number of an add call's error, none where the rule was added
+abbrev pub addedNumber : Added → Option ℕ
+addedNumber Rule = none
+addedNumber (Error e) = some (errorNumber e)

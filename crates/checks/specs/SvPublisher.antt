@@ -1,0 +1,39 @@
+-- SV publishers (01, "Rules": if several rules fit name and address, the last one's rate counts). Addresses, the key columns of a table by name,
+-- rates from word 176 on, and the count at 192.
+use Prim.Native.Nat.{ℕ, _+_}
+use mathlib.Core.Bool.{Bool, _&&_, cond}
+use mathlib.Core.List.{List}
+use lib.Dec.{eqb}
+use lib.ListN.{getD, set}
+use Rattle.records.specs.declared.search.Found.{Found}
+use Rattle.records.specs.declared.search.Found.the-variants.{At, Nothing}
+use Rattle.records.specs.Search.{lastBelow, isFound}
+use Rattle.tables.specs.Column.{wordSet}
+use Rattle.tables.specs.Named.{hasKey, keyStored}
+use Rattle.checks.specs.declared.sv_publisher.PublisherMatch.{PublisherMatch}
+use Rattle.checks.specs.declared.sv_publisher.PublisherMatch.the-variants.{NotRegistered, WrongAddress, Fits}
+use Rattle.checks.specs.Rules.{ruleCount, addAnswer, RuleAdded, ruleAdded}
+
+-- whether a rule has this address
+abbrev pub hasAddress : List ℕ → ℕ → ℕ → Bool
+hasAddress p address i = eqb (getD p i 0) address
+
+-- the last place that fits; an svID that no rule fits is registered with another address, or not at all
+abbrev pub matchAt : Bool → Found → PublisherMatch
+matchAt isRegistered (At i) = Fits i
+matchAt isRegistered Nothing = cond isRegistered WrongAddress NotRegistered
+
+-- how an svID and an address match the rules
+unfoldable pub svPublisher : List ℕ → ℕ → List ℕ → PublisherMatch
+svPublisher p address svid =
+    matchAt (isFound (lastBelow (λ i. hasKey p svid i) (ruleCount (getD p 192 0))))
+    (lastBelow (λ i. hasKey p svid i && hasAddress p address i) (ruleCount (getD p 192 0)))
+
+-- with one more rule at a place, behind the others
+unfoldable pub withSvPublisher : List ℕ → ℕ → ℕ → List ℕ → ℕ → List ℕ
+withSvPublisher p i address svid rate = set (wordSet (keyStored (wordSet p 0 i address) i svid) 176 i rate) 192 (i + 1)
+
+-- an add call with a name of this length
+unfoldable pub svAdded : List ℕ → ℕ → List ℕ → ℕ → ℕ → RuleAdded
+svAdded p address svid nameLength rate =
+    ruleAdded (addAnswer (getD p 192 0) nameLength) (withSvPublisher p (ruleCount (getD p 192 0)) address svid rate) p
