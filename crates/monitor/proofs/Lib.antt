@@ -1,0 +1,2 @@
+pub mod Bijection
+pub mod PartLaws

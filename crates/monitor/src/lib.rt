@@ -1,0 +1,2 @@
+// The monitor as one array of words.
+pub mod parts;

@@ -1,0 +1,224 @@
+// The parts of the monitor in one array of 1218 words: of each check and add call one function lends its part, and one takes the array.
+ghost use mathlib.Core.Path.{_≡_};
+ghost use lib.ListN.{length};
+ghost use Rattle.monitor.specs.Monitor.{monitorOf};
+ghost use Rattle.monitor.specs.Parts.{svSeqOn, gooseSeqOn, timeFieldOn, rateOn, cbOn, reservedOn, releasedOn, mmsAddedOn, gooseAddedOn, svAddedOn};
+ghost use Rattle.checks.specs.GoosePublisher.{goosePublisher};
+ghost use Rattle.checks.specs.GooseSeq.{retxChecked};
+ghost use Rattle.checks.specs.MmsRule.{firstRule};
+ghost use Rattle.checks.specs.SvPublisher.{svPublisher};
+use checks::goose_publisher::add_goose_publisher_in;
+use checks::goose_publisher::goose_publisher;
+use checks::goose_seq::check_goose_seq_in;
+use checks::goose_seq::retx_anomaly;
+use checks::mms_rule::add_mms_rule_in;
+use checks::mms_rule::first_rule;
+use checks::rate::rate_check_in;
+use checks::reservation::check_cb_in;
+use checks::reservation::release_cb_in;
+use checks::reservation::reserve_cb_in;
+use checks::rules::Added;
+use checks::sv_publisher::PublisherMatch;
+use checks::sv_publisher::add_sv_publisher_in;
+use checks::sv_publisher::sv_publisher;
+use checks::sv_seq::SvSeqOutcome;
+use checks::sv_seq::check_sv_seq_in;
+use checks::time_field::check_time_field_in;
+use records::schedule::RetxSchedule;
+use records::search::Found;
+
+// Checks a frame's count.
+fn check_sv_seq_lent(m: &mut [u64], svid: &[u64; 10], smp_cnt: u16) -> SvSeqOutcome
+    requires { ⌜ length (now m) ≡ 1218 ⌝ }
+    ensures { λ r. ⌜ record { monitor = monitorOf (now (m .exit)); answer = r } ≡ svSeqOn (monitorOf (now (m .entry))) (now (svid .entry)) «smp_cnt» ⌝ }
+{
+    check_sv_seq_in(&mut m[738..930], svid, smp_cnt)
+}
+
+pub fn check_sv_seq_on(m: &mut [u64; 1218], svid: &[u64; 10], smp_cnt: u16) -> SvSeqOutcome
+    ensures { λ r. ⌜ record { monitor = monitorOf (now (m .exit)); answer = r } ≡ svSeqOn (monitorOf (now (m .entry))) (now (svid .entry)) «smp_cnt» ⌝ }
+{
+    check_sv_seq_lent(m, svid, smp_cnt)
+}
+
+// Checks a frame's numbers.
+fn check_goose_seq_lent(m: &mut [u64], key: &[u64; 10], st_num: u32, sq_num: u32, now_us: u64) -> bool
+    requires { ⌜ length (now m) ≡ 1218 ⌝ }
+    ensures { λ r. ⌜ record { monitor = monitorOf (now (m .exit)); answer = r } ≡ gooseSeqOn (monitorOf (now (m .entry))) (now (key .entry)) ((«st_num», «sq_num»), «now_us») ⌝ }
+{
+    check_goose_seq_in(&mut m[514..738], key, st_num, sq_num, now_us)
+}
+
+pub fn check_goose_seq_on(m: &mut [u64; 1218], key: &[u64; 10], st_num: u32, sq_num: u32, now_us: u64) -> bool
+    ensures { λ r. ⌜ record { monitor = monitorOf (now (m .exit)); answer = r } ≡ gooseSeqOn (monitorOf (now (m .entry))) (now (key .entry)) ((«st_num», «sq_num»), «now_us») ⌝ }
+{
+    check_goose_seq_lent(m, key, st_num, sq_num, now_us)
+}
+
+// Checks a frame's time.
+fn check_time_field_lent(m: &mut [u64], limit: u32, address: u64, seconds: u32, fraction: u32) -> bool
+    requires { ⌜ length (now m) ≡ 1218 ⌝ }
+    ensures { λ r. ⌜ record { monitor = monitorOf (now (m .exit)); answer = r } ≡ timeFieldOn (monitorOf (now (m .entry))) limit address (seconds, fraction) ⌝ }
+{
+    check_time_field_in(&mut m[930..994], limit, address, seconds, fraction)
+}
+
+pub fn check_time_field_on(m: &mut [u64; 1218], limit: u32, address: u64, seconds: u32, fraction: u32) -> bool
+    ensures { λ r. ⌜ record { monitor = monitorOf (now (m .exit)); answer = r } ≡ timeFieldOn (monitorOf (now (m .entry))) limit address (seconds, fraction) ⌝ }
+{
+    check_time_field_lent(m, limit, address, seconds, fraction)
+}
+
+// Takes a request into its bucket.
+fn rate_check_lent(m: &mut [u64], key: u32, max_rate: u16, now_us: u64) -> bool
+    requires { ⌜ length (now m) ≡ 1218 ⌝ }
+    ensures { λ r. ⌜ record { monitor = monitorOf (now (m .exit)); answer = r } ≡ rateOn (monitorOf (now (m .entry))) key «max_rate» «now_us» ⌝ }
+{
+    rate_check_in(&mut m[434..514], key, max_rate, now_us)
+}
+
+pub fn rate_check_on(m: &mut [u64; 1218], key: u32, max_rate: u16, now_us: u64) -> bool
+    ensures { λ r. ⌜ record { monitor = monitorOf (now (m .exit)); answer = r } ≡ rateOn (monitorOf (now (m .entry))) key «max_rate» «now_us» ⌝ }
+{
+    rate_check_lent(m, key, max_rate, now_us)
+}
+
+// The use of a control block.
+fn check_cb_lent(m: &mut [u64], key: &[u64; 10], address: u64) -> bool
+    requires { ⌜ length (now m) ≡ 1218 ⌝ }
+    ensures { λ r. ⌜ record { monitor = monitorOf (now (m .exit)); answer = r } ≡ cbOn (monitorOf (now (m .entry))) (now (key .entry)) address ⌝ }
+{
+    check_cb_in(&mut m[994..1218], key, address)
+}
+
+pub fn check_cb_on(m: &mut [u64; 1218], key: &[u64; 10], address: u64) -> bool
+    ensures { λ r. ⌜ record { monitor = monitorOf (now (m .exit)); answer = r } ≡ cbOn (monitorOf (now (m .entry))) (now (key .entry)) address ⌝ }
+{
+    check_cb_lent(m, key, address)
+}
+
+// A SelectControl.
+fn reserve_cb_lent(m: &mut [u64], key: &[u64; 10], client: u32) -> bool
+    requires { ⌜ length (now m) ≡ 1218 ⌝ }
+    ensures { λ r. ⌜ record { monitor = monitorOf (now (m .exit)); answer = r } ≡ reservedOn (monitorOf (now (m .entry))) (now (key .entry)) client ⌝ }
+{
+    reserve_cb_in(&mut m[994..1218], key, client)
+}
+
+pub fn reserve_cb_on(m: &mut [u64; 1218], key: &[u64; 10], client: u32) -> bool
+    ensures { λ r. ⌜ record { monitor = monitorOf (now (m .exit)); answer = r } ≡ reservedOn (monitorOf (now (m .entry))) (now (key .entry)) client ⌝ }
+{
+    reserve_cb_lent(m, key, client)
+}
+
+// A Cancel or Conclude.
+fn release_cb_lent(m: &mut [u64], key: &[u64; 10], client: u32)
+    requires { ⌜ length (now m) ≡ 1218 ⌝ }
+    ensures { λ _. ⌜ monitorOf (now (m .exit)) ≡ releasedOn (monitorOf (now (m .entry))) (now (key .entry)) client ⌝ }
+{
+    release_cb_in(&mut m[994..1218], key, client);
+}
+
+pub fn release_cb_on(m: &mut [u64; 1218], key: &[u64; 10], client: u32)
+    ensures { λ _. ⌜ monitorOf (now (m .exit)) ≡ releasedOn (monitorOf (now (m .entry))) (now (key .entry)) client ⌝ }
+{
+    release_cb_lent(m, key, client);
+}
+
+// Adds an MMS rule.
+fn add_mms_rule_lent(m: &mut [u64], mask: u16, read_only: bool, rate: u16) -> Added
+    requires { ⌜ length (now m) ≡ 1218 ⌝ }
+    ensures { λ r. ⌜ record { monitor = monitorOf (now (m .exit)); answer = r } ≡ mmsAddedOn (monitorOf (now (m .entry))) mask «read_only» rate ⌝ }
+{
+    add_mms_rule_in(&mut m[15..64], mask, read_only, rate)
+}
+
+pub fn add_mms_rule_on(m: &mut [u64; 1218], mask: u16, read_only: bool, rate: u16) -> Added
+    ensures { λ r. ⌜ record { monitor = monitorOf (now (m .exit)); answer = r } ≡ mmsAddedOn (monitorOf (now (m .entry))) mask «read_only» rate ⌝ }
+{
+    add_mms_rule_lent(m, mask, read_only, rate)
+}
+
+// Adds a GOOSE publisher.
+fn add_goose_publisher_lent(m: &mut [u64], address: u64, name: &[u64; 10], name_len: usize) -> Added
+    requires { ⌜ length (now m) ≡ 1218 ⌝ }
+    ensures { λ r. ⌜ record { monitor = monitorOf (now (m .exit)); answer = r } ≡ gooseAddedOn (monitorOf (now (m .entry))) address (now (name .entry)) «name_len» ⌝ }
+{
+    add_goose_publisher_in(&mut m[64..241], address, name, name_len)
+}
+
+pub fn add_goose_publisher_on(m: &mut [u64; 1218], address: u64, name: &[u64; 10], name_len: usize) -> Added
+    ensures { λ r. ⌜ record { monitor = monitorOf (now (m .exit)); answer = r } ≡ gooseAddedOn (monitorOf (now (m .entry))) address (now (name .entry)) «name_len» ⌝ }
+{
+    add_goose_publisher_lent(m, address, name, name_len)
+}
+
+// Adds an SV publisher.
+fn add_sv_publisher_lent(m: &mut [u64], address: u64, svid: &[u64; 10], svid_len: usize, rate: u16) -> Added
+    requires { ⌜ length (now m) ≡ 1218 ⌝ }
+    ensures { λ r. ⌜ record { monitor = monitorOf (now (m .exit)); answer = r } ≡ svAddedOn (monitorOf (now (m .entry))) address (now (svid .entry)) «svid_len» rate ⌝ }
+{
+    add_sv_publisher_in(&mut m[241..434], address, svid, svid_len, rate)
+}
+
+pub fn add_sv_publisher_on(m: &mut [u64; 1218], address: u64, svid: &[u64; 10], svid_len: usize, rate: u16) -> Added
+    ensures { λ r. ⌜ record { monitor = monitorOf (now (m .exit)); answer = r } ≡ svAddedOn (monitorOf (now (m .entry))) address (now (svid .entry)) «svid_len» rate ⌝ }
+{
+    add_sv_publisher_lent(m, address, svid, svid_len, rate)
+}
+
+// The first MMS rule that applies.
+fn first_rule_lent(m: &[u64], raw: u8) -> Found
+    requires { ⌜ length (now m) ≡ 1218 ⌝ }
+    ensures { λ r. ⌜ r ≡ firstRule (monitorOf (now (m .entry)) .«mms_rules») raw ⌝ }
+{
+    first_rule(&m[15..64], raw)
+}
+
+pub fn first_rule_on(m: &[u64; 1218], raw: u8) -> Found
+    ensures { λ r. ⌜ r ≡ firstRule (monitorOf (now (m .entry)) .«mms_rules») raw ⌝ }
+{
+    first_rule_lent(m, raw)
+}
+
+// The first GOOSE publisher that fits.
+fn goose_publisher_lent(m: &[u64], address: u64, name: &[u64; 10]) -> Found
+    requires { ⌜ length (now m) ≡ 1218 ⌝ }
+    ensures { λ r. ⌜ r ≡ goosePublisher (monitorOf (now (m .entry)) .«goose_publishers») address (now (name .entry)) ⌝ }
+{
+    goose_publisher(&m[64..241], address, name)
+}
+
+pub fn goose_publisher_on(m: &[u64; 1218], address: u64, name: &[u64; 10]) -> Found
+    ensures { λ r. ⌜ r ≡ goosePublisher (monitorOf (now (m .entry)) .«goose_publishers») address (now (name .entry)) ⌝ }
+{
+    goose_publisher_lent(m, address, name)
+}
+
+// How an svID and an address match the SV publishers.
+fn sv_publisher_lent(m: &[u64], address: u64, svid: &[u64; 10]) -> PublisherMatch
+    requires { ⌜ length (now m) ≡ 1218 ⌝ }
+    ensures { λ r. ⌜ r ≡ svPublisher (monitorOf (now (m .entry)) .«sv_publishers») address (now (svid .entry)) ⌝ }
+{
+    sv_publisher(&m[241..434], address, svid)
+}
+
+pub fn sv_publisher_on(m: &[u64; 1218], address: u64, svid: &[u64; 10]) -> PublisherMatch
+    ensures { λ r. ⌜ r ≡ svPublisher (monitorOf (now (m .entry)) .«sv_publishers») address (now (svid .entry)) ⌝ }
+{
+    sv_publisher_lent(m, address, svid)
+}
+
+// Whether a frame misses the retransmission schedule.
+fn retx_anomaly_lent(m: &[u64], key: &[u64; 10], schedule: RetxSchedule, st_num: u32, sq_num: u32, now_us: u64) -> bool
+    requires { ⌜ length (now m) ≡ 1218 ⌝ }
+    ensures { λ r. ⌜ r ≡ retxChecked schedule (monitorOf (now (m .entry)) .«goose_seq») (now (key .entry)) ((«st_num», «sq_num»), «now_us») ⌝ }
+{
+    retx_anomaly(&m[514..738], key, schedule, st_num, sq_num, now_us)
+}
+
+pub fn retx_anomaly_on(m: &[u64; 1218], key: &[u64; 10], schedule: RetxSchedule, st_num: u32, sq_num: u32, now_us: u64) -> bool
+    ensures { λ r. ⌜ r ≡ retxChecked schedule (monitorOf (now (m .entry)) .«goose_seq») (now (key .entry)) ((«st_num», «sq_num»), «now_us») ⌝ }
+{
+    retx_anomaly_lent(m, key, schedule, st_num, sq_num, now_us)
+}
