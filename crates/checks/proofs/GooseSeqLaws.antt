@@ -20,10 +20,15 @@ use Rattle.checks.specs.GooseSeq.{gooseStreams, replays, gooseReplay, nu
 -- the numbers that are kept
 kept-after : (known : Bool) (last new : (ℕ × ℕ) × ℕ)
     → (let r = gooseReplay (ifKnown known last) (new .0) in
-    _≡_ {A = (ℕ × ℕ) × ℕ} ((numberOr r (last .0 .0) (new .0 .0), numberOr r (last .0 .1) (new .0 .1)), numberOr r (last .1) (new .1)) (after (λ i. i) keptNumbers (ifKnown known last) new))
+    _≡_ {A = (ℕ × ℕ) × ℕ} ((numberOr r (last .0 .0) (new .0 .0), numberOr r (last .0 .1) (new .0 .1)), numberOr r (last .1) (new .1))
+    (after (λ i. i) keptNumbers (ifKnown known last) new))
 kept-after true last new = go (replays (last .0) (new .0))
   where
-    go : (r : Bool) → _≡_ {A = (ℕ × ℕ) × ℕ} ((numberOr r (last .0 .0) (new .0 .0), numberOr r (last .0 .1) (new .0 .1)), numberOr r (last .1) (new .1)) (cond r last new)
+    go : (r : Bool) → _≡_ {A = (ℕ × ℕ) × ℕ} (
+      (numberOr r (last .0 .0) (new .0 .0), numberOr r (last .0 .1) (new .0 .1)),
+      numberOr r (last .1)
+          (new .1),
+    ) (cond r last new)
     go true = refl
     go false = refl
 kept-after false last new = refl
@@ -38,7 +43,8 @@ module _ (t key : List ℕ) (new : (ℕ × ℕ) × ℕ) {words first second out 
   unfolding gooseChecked
   numbers-checked e s q m r ka kb kc x y z =
       let last : (ℕ × ℕ) × ℕ = ((state, sequence), time) in
-      let v : ifKnown (place .known) last ≡ valueOf gooseStreams t key = ap (ifKnown (place .known)) (λ i. ((s i, q i), m i)) ∙ value-read named namedLaws threeNumbers threeLaws t key e in
+      let v : ifKnown (place .known) last ≡ valueOf gooseStreams t key = ap (ifKnown (place .known)) (λ i. ((s i, q i), m i))
+      ∙ value-read named namedLaws threeNumbers threeLaws t key e in
       let n : _≡_ {A = (ℕ × ℕ) × ℕ} ((a, b), c) ((numberOr replay state (new .0 .0), numberOr replay sequence (new .0 .1)), numberOr replay time (new .1)) =
       λ i. ((ka i, kb i), kc i) in
       let w = n ∙ ap (λ (g : Bool). ((numberOr g state (new .0 .0), numberOr g sequence (new .0 .1)), numberOr g time (new .1))) r

@@ -1,11 +1,14 @@
 -- Laws of rates: the check carried out on the words of the table.
-use Prim.Native.Nat.{ℕ, _≤_}
+use Prim.Native.Nat.{ℕ, _≤_, _-_, min}
 use mathlib.Core.Bool.{Bool, true, false}
 use mathlib.Core.List.{List}
 use mathlib.Core.Path.{_≡_, refl, ap, _∙_}
 use native.Mathlib.Omega.{arith}
+use lib.Dec.{ltb, eqb}
 use Rattle.records.specs.declared.bucket.BucketCall.{BucketCall}
 use Rattle.records.specs.declared.bucket.RateBucket.{RateBucket}
+use Rattle.records.proofs.Booleans.{cond-holds}
+use Rattle.records.specs.Bucket.{refill, refilledBy, refilled, consumed, firstCall, nextCall}
 use Rattle.records.specs.Remembered.{after}
 use Rattle.tables.proofs.WordTables.{threeLaws, numberedLaws, value-read, value-stored}
 use Rattle.tables.specs.declared.place.Place.{Place}
@@ -14,7 +17,7 @@ use Rattle.tables.specs.Numbered.{numbered}
 use Rattle.tables.specs.Place.{entered, ifKnown}
 use Rattle.tables.specs.Table.{valueOf}
 use Rattle.tables.specs.WordTable.{threeNumbers}
-use Rattle.checks.specs.Rate.{bucketOf, bucketWords, buckets, bucketCall, keptCall, newBucket, nextBucket, rateChecked}
+use Rattle.checks.specs.Rate.{bucketOf, bucketAt, bucketWords, buckets, bucketCall, keptCall, newBucket, nextBucket, rateChecked}
 
 -- 80 words are so many at least
 pub long-enough : {n : ℕ} → n ≡ 80 → (m : ℕ) → m ≤ 80 → m ≤ n
@@ -30,20 +33,47 @@ bucket-after : (known : Bool) (w : (ℕ × ℕ) × ℕ) (request : ℕ × ℕ)
 bucket-after true w request = refl
 bucket-after false w request = refl
 
-module _ (t : List ℕ) (key rate time : ℕ) {words first second out : List ℕ} {place : Place} {a b c : ℕ} {kept : RateBucket} {call : BucketCall} where
+module _ (t : List ℕ) (key rate time : ℕ) {words first second out : List ℕ} {place : Place} {kept : RateBucket} {call : BucketCall} where
   pub rate-checked : record { table = words; place = place } ≡ entered numbered t key
-      → a ≡ wordOf words 32 (place .slot) → b ≡ wordOf words 48 (place .slot) → c ≡ wordOf words 64 (place .slot)
-      → kept ≡ bucketOf ((a, b), c) → call ≡ bucketCall (ifKnown (place .known) kept) (rate, time)
+      → kept ≡ bucketAt words (place .slot) → call ≡ bucketCall (ifKnown (place .known) kept) (rate, time)
       → first ≡ wordSet words 32 (place .slot) (call .bucket .tokens) → second ≡ wordSet first 48 (place .slot) (call .bucket .capacity)
       → out ≡ wordSet second 64 (place .slot) (call .bucket .«last_refill_us»)
       → record { table = out; allowed = call .allowed } ≡ rateChecked t key rate time
   unfolding rateChecked
-  rate-checked e ea eb ec k l x y z =
-      let w : (ℕ × ℕ) × ℕ = ((a, b), c) in
-      let v : ifKnown (place .known) w ≡ valueOf buckets t key = ap (ifKnown (place .known)) (λ i. ((ea i, eb i), ec i)) ∙ value-read numbered numberedLaws threeNumbers threeLaws t key e in
+  rate-checked e k l x y z =
+      let w : (ℕ × ℕ) × ℕ = ((wordOf words 32 (place .slot), wordOf words 48 (place .slot)), wordOf words 64 (place .slot)) in
+      let v : ifKnown (place .known) w ≡ valueOf buckets t key = value-read numbered numberedLaws threeNumbers threeLaws t key e in
       let m = l ∙ ap (λ (r : RateBucket). bucketCall (ifKnown (place .known) r) (rate, time)) k ∙ kept-call (place .known) w (rate, time) in
-      let n = ap (λ (r : BucketCall). bucketWords (r .bucket)) m ∙ bucket-after (place .known) w (rate, time) ∙ ap (λ x. after newBucket nextBucket x (rate, time)) v in
-      let o = z ∙ ap (λ (u : List ℕ). wordSet u 64 (place .slot) (call .bucket .«last_refill_us»)) (y ∙ ap (λ (u : List ℕ). wordSet u 48 (place .slot) (call .bucket .capacity)) x) in
+      let n = ap (λ (r : BucketCall). bucketWords (r .bucket)) m ∙ bucket-after (place .known) w (rate, time)
+      ∙ ap (λ x. after newBucket nextBucket x (rate, time)) v in
+      let o = z ∙ ap (λ (u : List ℕ). wordSet u 64 (place .slot) (call .bucket .«last_refill_us»))
+      (y ∙ ap (λ (u : List ℕ). wordSet u 48 (place .slot) (call .bucket .capacity)) x) in
       let p = value-stored numbered numberedLaws threeNumbers threeLaws t key e newBucket nextBucket (rate, time) {w = bucketWords (call .bucket)} n o in
       let q = ap (λ (r : BucketCall). r .allowed) m ∙ ap (λ x. keptCall x (rate, time) .allowed) v in
       λ i. record { table = p i; allowed = q i }
+
+-- a bucket whose tokens and capacity are numbers of 16 bits comes back from its words, and a call leaves such a bucket
+pub record Narrow (b : RateBucket) : Type 0 where
+  pub tokens : b .tokens ≤ 65535
+  pub capacity : b .capacity ≤ 65535
+
+pub bucket-back : (b : RateBucket) → Narrow b → bucketOf (bucketWords b) ≡ b
+bucket-back b n =
+    let p : min (b .tokens) 65535 ≡ b .tokens = omega (arith, n .tokens) in
+    let q : min (b .capacity) 65535 ≡ b .capacity = omega (arith, n .capacity) in
+    λ i. record { tokens = p i; capacity = q i; «last_refill_us» = b .«last_refill_us» }
+
+pub first-narrow : (rate time : ℕ) → rate ≤ 65535 → Narrow (firstCall rate time)
+first-narrow rate time h = record { tokens = omega arith; capacity = h }
+
+refilled-narrow : (b : RateBucket) (time added : ℕ) → Narrow b → Narrow (refilledBy b time added)
+unfolding refilledBy
+refilled-narrow b time added n =
+    cond-holds Narrow (ltb time (b .«last_refill_us»)) (record { tokens = n .capacity; capacity = n .capacity })
+    (cond-holds Narrow (eqb added 0) n (record { tokens = omega (arith, n .capacity); capacity = n .capacity }))
+
+pub next-narrow : (b : RateBucket) (time : ℕ) → Narrow b → Narrow (nextCall b time .bucket)
+unfolding consumed refilled
+next-narrow b time n =
+    let r = refilled-narrow b time (refill (time - b .«last_refill_us») (b .capacity)) n in
+    record { tokens = omega (arith, r .tokens); capacity = r .capacity }

@@ -16,20 +16,21 @@ use Rattle.tables.specs.Column.{wordOf, wordSet}
 use Rattle.tables.specs.Named.{keyStored, named}
 use Rattle.tables.specs.Order.{rankOf, freeSlot}
 use Rattle.tables.specs.Place.{found}
-use Rattle.checks.specs.Reservation.{takenAt, placeOr, placeFor, reservedAt, reserved, ownedBy, ownedSlot, freedSlot, allFreed, released, CbChecked, usedAt, usedBy, cbChecked}
+use Rattle.checks.specs.Reservation.{takenAt, placeOr, placeFor, reservedAt, reserved, ownedBy, ownedSlot}
+use Rattle.checks.specs.Reservation.{freedSlot, allFreed, released, CbChecked, boundAt, boundBy, cbChecked}
 
 -- ---- the use of a reservation
 
 module _ (t : List ℕ) (i address : ℕ) {bound : ℕ} (b : bound ≡ wordOf t 192 i) where
-  pub use-first : {u v : List ℕ} → bound ≡ 0 → u ≡ wordSet t 192 i 1 → v ≡ wordSet u 208 i address → record { table = v; hijack = false } ≡ usedAt t i address
-  unfolding usedAt
-  use-first e p q =
+  pub bind-first : {u v : List ℕ} → bound ≡ 0 → u ≡ wordSet t 192 i 1 → v ≡ wordSet u 208 i address → record { table = v; hijack = false } ≡ boundAt t i address
+  unfolding boundAt
+  bind-first e p q =
       (λ j. record { table = (q ∙ ap (λ (l : List ℕ). wordSet l 208 i address) p) j; hijack = false })
       ∙ sym (cond-yes _ _ (eq-eqb (wordOf t 192 i) 0 (sym b ∙ e)))
 
-  pub use-bound : {a : ℕ} → (bound ≡ 0 → ⊥) → a ≡ wordOf t 208 i → record { table = t; hijack = not (eqb a address) } ≡ usedAt t i address
-  unfolding usedAt
-  use-bound n q = (λ j. record { table = t; hijack = not (eqb (q j) address) }) ∙ sym (cond-no _ _ (ne-eqb (wordOf t 192 i) 0 (λ e. n (b ∙ e))))
+  pub bound-already : {a : ℕ} → (bound ≡ 0 → ⊥) → a ≡ wordOf t 208 i → record { table = t; hijack = not (eqb a address) } ≡ boundAt t i address
+  unfolding boundAt
+  bound-already n q = (λ j. record { table = t; hijack = not (eqb (q j) address) }) ∙ sym (cond-no _ _ (ne-eqb (wordOf t 192 i) 0 (λ e. n (b ∙ e))))
 
 module _ (t key : List ℕ) (address : ℕ) where
   pub cb-empty : getD key 1 0 ≡ 0 → record { table = t; hijack = false } ≡ cbChecked t key address
@@ -39,11 +40,11 @@ module _ (t key : List ℕ) (address : ℕ) where
   module _ (n : getD key 1 0 ≡ 0 → ⊥) {f : Found} (q : f ≡ found named t key) where
     pub cb-none : f ≡ Nothing → record { table = t; hijack = false } ≡ cbChecked t key address
     unfolding cbChecked
-    cb-none e = ap (usedBy t address) (answered e q) ∙ sym (cond-no _ _ (ne-eqb (getD key 1 0) 0 n))
+    cb-none e = ap (boundBy t address) (answered e q) ∙ sym (cond-no _ _ (ne-eqb (getD key 1 0) 0 n))
 
-    pub cb-used : {i : ℕ} {c : CbChecked} → f ≡ At i → c ≡ usedAt t i address → c ≡ cbChecked t key address
+    pub cb-used : {i : ℕ} {c : CbChecked} → f ≡ At i → c ≡ boundAt t i address → c ≡ cbChecked t key address
     unfolding cbChecked
-    cb-used e u = u ∙ ap (usedBy t address) (answered e q) ∙ sym (cond-no _ _ (ne-eqb (getD key 1 0) 0 n))
+    cb-used e u = u ∙ ap (boundBy t address) (answered e q) ∙ sym (cond-no _ _ (ne-eqb (getD key 1 0) 0 n))
 
 -- ---- a SelectControl
 

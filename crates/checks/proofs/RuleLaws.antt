@@ -1,9 +1,11 @@
 -- Laws of rules: an add call's answer and list, a rule stored, and what the rules tell of an svID and an address.
-use Prim.Native.Nat.{ℕ, _+_}
-use mathlib.Core.Bool.{Bool, true, false, _&&_}
+use Prim.Native.Nat.{ℕ, _+_, _≤_}
+use mathlib.Core.Bool.{Bool, true, false, _&&_, cond}
 use mathlib.Core.List.{List}
-use mathlib.Core.Path.{_≡_, refl, ap, _∙_}
+use mathlib.Core.Path.{_≡_, refl, ap, sym, _∙_}
 use native.Mathlib.Numerals.{add-one}
+use borrow.Author.Tests.{leb-true}
+use lib.Dec.{ltb, leb}
 use lib.ListN.{set}
 use Rattle.records.proofs.Booleans.{answered}
 use Rattle.records.specs.declared.error.VsError.{VsError}
@@ -14,12 +16,27 @@ use Rattle.tables.specs.Column.{wordSet}
 use Rattle.tables.specs.Named.{keyStored}
 use Rattle.checks.specs.declared.rules.Added.{Added}
 use Rattle.checks.specs.declared.rules.Added.the-variants.{Rule, Error}
+use Rattle.checks.specs.Keys.{flagWord}
 use Rattle.checks.specs.GoosePublisher.{withGoosePublisher}
-use Rattle.checks.specs.MmsRule.{flagWord, withMmsRule}
+use Rattle.checks.specs.MmsRule.{withMmsRule}
 use Rattle.checks.specs.Rules.{addAnswer, ruleAdded}
 use Rattle.checks.specs.SvPublisher.{matchAt, withSvPublisher}
 
 -- ---- an add call
+
+abbrev isRule : Added → Bool
+isRule Rule = true
+isRule (Error e) = false
+
+-- a name is taken only if it has at most 64 octets
+short-name : (room short : Bool) (e f : VsError) → cond room (cond short Rule (Error e)) (Error f) ≡ Rule → short ≡ true
+short-name room true e f h = refl
+short-name true false e f h = ap isRule h
+short-name false false e f h = ap isRule h
+
+pub added-length : (count len : ℕ) {answer : Added} → answer ≡ addAnswer count len → answer ≡ Rule → len ≤ 64
+unfolding addAnswer
+added-length count len q e = leb-true len 64 (short-name (ltb count 16) (leb len 64) _ _ (sym q ∙ e))
 
 module _ (count len : ℕ) (new old : List ℕ) {answer : Added} (q : answer ≡ addAnswer count len) where
   pub added-rule : {out : List ℕ} → answer ≡ Rule → out ≡ new → record { rules = out; answer = Rule } ≡ ruleAdded (addAnswer count len) new old

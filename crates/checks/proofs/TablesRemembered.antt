@@ -8,11 +8,11 @@ use Rattle.records.specs.Decide.{decideList, decidePair}
 use Rattle.records.specs.Remembered.{remembered}
 use Rattle.tables.proofs.KeyedTables.{Holds, holds-remembered}
 use Rattle.tables.proofs.KeyLaws.{LegalKey}
-use Rattle.tables.proofs.KeyMaps.{byName, byNumberAndName, byNumber}
+use Rattle.tables.proofs.KeyMaps.{byName, byTwoNumbers, byNumber}
 use Rattle.tables.proofs.WordTables.{oneLaws, twoLaws, threeLaws, length-none, rank-none}
-use Rattle.tables.specs.Key.{keyOf}
 use Rattle.tables.specs.Order.{noEntries}
 use Rattle.tables.specs.Table.{stepped}
+use Rattle.checks.specs.Keys.{plainKey, gooseKey}
 use Rattle.checks.specs.GooseSeq.{keptNumbers, gooseChecked}
 use Rattle.checks.specs.Rate.{newBucket, nextBucket, rateChecked}
 use Rattle.checks.specs.SvSeq.{keptCount, svChecked}
@@ -20,17 +20,17 @@ use Rattle.checks.specs.TimeField.{clocks}
 
 -- SV streams by svID
 pub sv-remembered : (h : List (List ℕ × ℕ)) → All (λ x. LegalKey 0 (x .0)) h
-    → Holds (byName oneLaws 0) (foldl (λ t x. svChecked t (keyOf 0 (x .0)) (x .1) .table) (noEntries 192) h)
+    → Holds (byName oneLaws 0) (foldl (λ t x. svChecked t (plainKey (x .0)) (x .1) .table) (noEntries 192) h)
     (remembered (decideList ℕ-discrete) 16 (λ i. i) keptCount (reverse h))
 unfolding svChecked
 sv-remembered = holds-remembered (byName oneLaws 0) (λ i. i) keptCount (noEntries 192) (length-none 192) (rank-none 192 (omega arith))
 
--- GOOSE streams by address and name
-pub goose-remembered : (h : List ((ℕ × List ℕ) × ((ℕ × ℕ) × ℕ))) → All (λ x. LegalKey (x .0 .0) (x .0 .1)) h
-    → Holds (byNumberAndName threeLaws) (foldl (λ t x. gooseChecked t (keyOf (x .0 .0) (x .0 .1)) (x .1) .table) (noEntries 224) h)
-    (remembered (decidePair ℕ-discrete (decideList ℕ-discrete)) 16 (λ i. i) keptNumbers (reverse h))
+-- GOOSE streams by address and hash
+pub goose-remembered : (h : List ((ℕ × ℕ) × ((ℕ × ℕ) × ℕ))) → All (λ x. Unit {0}) h
+    → Holds (byTwoNumbers threeLaws) (foldl (λ t x. gooseChecked t (gooseKey (x .0 .0) (x .0 .1)) (x .1) .table) (noEntries 224) h)
+    (remembered (decidePair ℕ-discrete ℕ-discrete) 16 (λ i. i) keptNumbers (reverse h))
 unfolding gooseChecked
-goose-remembered = holds-remembered (byNumberAndName threeLaws) (λ i. i) keptNumbers (noEntries 224) (length-none 224) (rank-none 224 (omega arith))
+goose-remembered = holds-remembered (byTwoNumbers threeLaws) (λ i. i) keptNumbers (noEntries 224) (length-none 224) (rank-none 224 (omega arith))
 
 -- clocks by address, of the frames that have a pair
 pub clocks-remembered : (h : List (ℕ × (ℕ × ℕ))) → All (λ x. Unit {0}) h

@@ -68,6 +68,7 @@ module _ (t : List ℕ) (limit address : ℕ) (pair : ℕ × ℕ) where
     time-checked h e s f u o a =
         let v : ifKnown (place .known) (seconds, fraction) ≡ valueOf clocks t address =
         ap (ifKnown (place .known)) (λ i. (s i, f i)) ∙ value-read numbered numberedLaws twoNumbers twoLaws t address e in
-        let p = value-stored numbered numberedLaws twoNumbers twoLaws t address e (λ i. i) (λ kept i. i) pair {w = pair} (latest pair (valueOf clocks t address)) (o ∙ ap (λ (l : List ℕ). wordSet l 48 (place .slot) (pair .1)) u) in
+        let p = value-stored numbered numberedLaws twoNumbers twoLaws t address e (λ i. i) (λ kept i. i) pair {w = pair}
+        (latest pair (valueOf clocks t address)) (o ∙ ap (λ (l : List ℕ). wordSet l 48 (place .slot) (pair .1)) u) in
         let q = a ∙ ap (λ x. clockAlert limit x pair) v in
         (λ i. record { table = p i; alert = q i }) ∙ sym (cond-yes _ _ h)

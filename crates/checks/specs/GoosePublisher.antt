@@ -4,11 +4,12 @@ use Prim.Native.Nat.{ℕ, _+_}
 use mathlib.Core.Bool.{Bool, _&&_, _||_}
 use mathlib.Core.List.{List}
 use lib.Dec.{eqb}
-use lib.ListN.{getD, set}
+use lib.ListN.{length, getD, set}
 use Rattle.records.specs.declared.search.Found.{Found}
 use Rattle.records.specs.Search.{firstFrom}
 use Rattle.tables.specs.Column.{wordOf, wordSet}
 use Rattle.tables.specs.Named.{hasKey, keyStored}
+use Rattle.checks.specs.Keys.{plainKey}
 use Rattle.checks.specs.Rules.{ruleCount, addAnswer, RuleAdded, ruleAdded}
 
 -- whether the rule at a place fits an address and a control block's name
@@ -23,7 +24,7 @@ goosePublisher p address name = firstFrom (gooseFitsAt p address name) 0 (ruleCo
 unfoldable pub withGoosePublisher : List ℕ → ℕ → ℕ → List ℕ → List ℕ
 withGoosePublisher p i address name = set (keyStored (wordSet p 0 i address) i name) 176 (i + 1)
 
--- an add call with a name of this length
-unfoldable pub gooseAdded : List ℕ → ℕ → List ℕ → ℕ → RuleAdded
-gooseAdded p address name nameLength =
-    ruleAdded (addAnswer (getD p 176 0) nameLength) (withGoosePublisher p (ruleCount (getD p 176 0)) address name) p
+-- an add call
+unfoldable pub gooseAdded : List ℕ → ℕ → List ℕ → RuleAdded
+gooseAdded p address name =
+    ruleAdded (addAnswer (getD p 176 0) (length name)) (withGoosePublisher p (ruleCount (getD p 176 0)) address (plainKey name)) p

@@ -46,11 +46,11 @@ outsideTolerance schedule last new =
     eqb (new .0 .0) (last .0 .0) && ltb (last .0 .1) (new .0 .1) && leb (last .1) (new .1)
     && not (withinTolerance schedule (min (new .1 - last .1) (2 ^ 32 - 1)) (expectedInterval schedule (new .0 .1)))
 
--- for a known stream
+-- asked only with enforcement on: a frame of a known stream
 abbrev pub retransmission : RetxSchedule → Option ((ℕ × ℕ) × ℕ) → (ℕ × ℕ) × ℕ → Bool
 retransmission schedule none new = false
 retransmission schedule (some last) new = outsideTolerance schedule last new
 
--- what the look-up answers
+-- whether a frame misses the schedule, by what the table has of its key; nothing is aged
 unfoldable pub retxChecked : RetxSchedule → List ℕ → List ℕ → (ℕ × ℕ) × ℕ → Bool
 retxChecked schedule t key new = retransmission schedule (valueOf gooseStreams t key) new

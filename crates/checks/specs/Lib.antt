@@ -3,6 +3,7 @@ pub mod TimeField
 pub mod GooseSeq
 pub mod Rate
 pub mod Reservation
+pub mod Keys
 pub mod Rules
 pub mod MmsRule
 pub mod GoosePublisher

@@ -1,13 +1,14 @@
 -- MMS rules (01, "Rules": the first rule whose mask is FFFF or has the raw number's bit applies). Masks, read-only flags from word 16 on, rates from
 -- 32 on, and the count at 48.
-use Prim.Native.Nat.{ℕ, _+_, _/_, _%_, _^_}
-use mathlib.Core.Bool.{Bool, _&&_, _||_, cond}
+use Prim.Native.Nat.{ℕ, _+_, _/_, _%_, _^_, min}
+use mathlib.Core.Bool.{Bool, _&&_, _||_, not}
 use mathlib.Core.List.{List}
 use lib.Dec.{eqb, ltb}
 use lib.ListN.{getD, set}
 use Rattle.records.specs.declared.search.Found.{Found}
 use Rattle.records.specs.Search.{firstFrom}
-use Rattle.tables.specs.Column.{wordSet}
+use Rattle.tables.specs.Column.{wordOf, wordSet}
+use Rattle.checks.specs.Keys.{flagWord}
 use Rattle.checks.specs.Rules.{ruleCount, addAnswer, RuleAdded, ruleAdded}
 
 -- whether a mask has the bit of a raw number; only numbers below 16 have one
@@ -22,9 +23,12 @@ applies mask raw = eqb mask 0xFFFF || hasBit mask raw
 unfoldable pub firstRule : List ℕ → ℕ → Found
 firstRule p raw = firstFrom (λ i. applies (getD p i 0) raw) 0 (ruleCount (getD p 48 0))
 
--- a flag as a word
-abbrev pub flagWord : Bool → ℕ
-flagWord flag = cond flag 1 0
+-- whether the rule at a place is read-only, and its rate
+abbrev pub ruleReadOnly : List ℕ → ℕ → Bool
+ruleReadOnly p i = not (eqb (wordOf p 16 i) 0)
+
+abbrev pub ruleRate : List ℕ → ℕ → ℕ
+ruleRate p i = min (wordOf p 32 i) 65535
 
 -- with one more rule at a place, behind the others
 unfoldable pub withMmsRule : List ℕ → ℕ → ℕ → Bool → ℕ → List ℕ

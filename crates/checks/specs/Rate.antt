@@ -7,16 +7,17 @@ use Rattle.records.specs.declared.bucket.BucketCall.{BucketCall}
 use Rattle.records.specs.declared.bucket.RateBucket.{RateBucket}
 use Rattle.records.specs.Bucket.{firstCall, nextCall}
 use Rattle.tables.specs.Numbered.{numbered}
+use Rattle.tables.specs.Column.{wordOf}
 use Rattle.tables.specs.Table.{Columns, valueOf, stepped}
 use Rattle.tables.specs.WordTable.{threeNumbers, wordTable}
 
--- a word as a number of 16 bits
-abbrev pub saturatedTo16 : ℕ → ℕ
-saturatedTo16 x = min x 65535
-
--- the bucket that is kept as three words: tokens, capacity, time of last refill
+-- the bucket that is kept as three words: tokens and capacity, 65535 where a word has more, and time of last refill
 abbrev pub bucketOf : (ℕ × ℕ) × ℕ → RateBucket
-bucketOf w = record { tokens = saturatedTo16 (w .0 .0); capacity = saturatedTo16 (w .0 .1); «last_refill_us» = w .1 }
+bucketOf w = record { tokens = min (w .0 .0) 65535; capacity = min (w .0 .1) 65535; «last_refill_us» = w .1 }
+
+-- the bucket of a slot
+abbrev pub bucketAt : List ℕ → ℕ → RateBucket
+bucketAt t slot = bucketOf ((wordOf t 32 slot, wordOf t 48 slot), wordOf t 64 slot)
 
 abbrev pub bucketWords : RateBucket → (ℕ × ℕ) × ℕ
 bucketWords b = ((b .tokens, b .capacity), b .«last_refill_us»)
@@ -42,7 +43,7 @@ newBucket request = bucketWords (keptCall none request .bucket)
 abbrev pub nextBucket : (ℕ × ℕ) × ℕ → ℕ × ℕ → (ℕ × ℕ) × ℕ
 nextBucket w request = bucketWords (keptCall (some w) request .bucket)
 
--- the buckets after a request, and whether it is within its rate
+-- the buckets after a request, and whether it is within its rate; one of a rule without a rate is not asked
 pub record RateChecked : Type 0 where
   pub table : List ℕ
   pub allowed : Bool

@@ -16,7 +16,7 @@ use Rattle.tables.specs.Place.{found}
 unfoldable pub takenAt : List ℕ → ℕ → List ℕ → ℕ → List ℕ
 takenAt t i key client = wordSet (wordSet (wordSet (wordSet (keyStored t i key) 0 i 0) 176 i client) 192 i 0) 208 i 0
 
--- the slot that a SelectControl takes: the one of that name and kind, taken over, or a free one
+-- the slot that a SelectControl takes: the one of that name and kind, taken over, or the first free one
 abbrev pub placeOr : Found → Found → Found
 placeOr (At i) free = At i
 placeOr Nothing free = free
@@ -64,16 +64,16 @@ pub record CbChecked : Type 0 where
   pub hijack : Bool
 
 -- the first address to use a reservation is bound; another is a hijack
-unfoldable pub usedAt : List ℕ → ℕ → ℕ → CbChecked
-usedAt t i address =
+unfoldable pub boundAt : List ℕ → ℕ → ℕ → CbChecked
+boundAt t i address =
     cond (eqb (wordOf t 192 i) 0)
     (record { table = wordSet (wordSet t 192 i 1) 208 i address; hijack = false })
     (record { table = t; hijack = not (eqb (wordOf t 208 i) address) })
 
-abbrev pub usedBy : List ℕ → ℕ → Found → CbChecked
-usedBy t address Nothing = record { table = t; hijack = false }
-usedBy t address (At i) = usedAt t i address
+abbrev pub boundBy : List ℕ → ℕ → Found → CbChecked
+boundBy t address Nothing = record { table = t; hijack = false }
+boundBy t address (At i) = boundAt t i address
 
 -- an empty name in a GOOSE or SV frame is never looked up
 unfoldable pub cbChecked : List ℕ → List ℕ → ℕ → CbChecked
-cbChecked t key address = cond (eqb (getD key 1 0) 0) (record { table = t; hijack = false }) (usedBy t address (found named t key))
+cbChecked t key address = cond (eqb (getD key 1 0) 0) (record { table = t; hijack = false }) (boundBy t address (found named t key))

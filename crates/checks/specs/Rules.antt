@@ -29,8 +29,3 @@ ifAdded (Error e) new old = old
 
 abbrev pub ruleAdded : Added → List ℕ → List ℕ → RuleAdded
 ruleAdded answer new old = record { rules = ifAdded answer new old; answer = answer }
-
--- the number of an add call's error, none where the rule was added
-abbrev pub addedNumber : Added → Option ℕ
-addedNumber Rule = none
-addedNumber (Error e) = some (errorNumber e)

@@ -1,17 +1,18 @@
 -- SV publishers (01, "Rules": if several rules fit name and address, the last one's rate counts). Addresses, the key columns of a table by name,
 -- rates from word 176 on, and the count at 192.
-use Prim.Native.Nat.{ℕ, _+_}
+use Prim.Native.Nat.{ℕ, _+_, min}
 use mathlib.Core.Bool.{Bool, _&&_, cond}
 use mathlib.Core.List.{List}
 use lib.Dec.{eqb}
-use lib.ListN.{getD, set}
+use lib.ListN.{length, getD, set}
 use Rattle.records.specs.declared.search.Found.{Found}
 use Rattle.records.specs.declared.search.Found.the-variants.{At, Nothing}
 use Rattle.records.specs.Search.{lastBelow, isFound}
-use Rattle.tables.specs.Column.{wordSet}
+use Rattle.tables.specs.Column.{wordOf, wordSet}
 use Rattle.tables.specs.Named.{hasKey, keyStored}
 use Rattle.checks.specs.declared.sv_publisher.PublisherMatch.{PublisherMatch}
 use Rattle.checks.specs.declared.sv_publisher.PublisherMatch.the-variants.{NotRegistered, WrongAddress, Fits}
+use Rattle.checks.specs.Keys.{plainKey}
 use Rattle.checks.specs.Rules.{ruleCount, addAnswer, RuleAdded, ruleAdded}
 
 -- whether a rule has this address
@@ -33,7 +34,11 @@ svPublisher p address svid =
 unfoldable pub withSvPublisher : List ℕ → ℕ → ℕ → List ℕ → ℕ → List ℕ
 withSvPublisher p i address svid rate = set (wordSet (keyStored (wordSet p 0 i address) i svid) 176 i rate) 192 (i + 1)
 
--- an add call with a name of this length
-unfoldable pub svAdded : List ℕ → ℕ → List ℕ → ℕ → ℕ → RuleAdded
-svAdded p address svid nameLength rate =
-    ruleAdded (addAnswer (getD p 192 0) nameLength) (withSvPublisher p (ruleCount (getD p 192 0)) address svid rate) p
+-- the rate of the rule at a place
+abbrev pub publisherRate : List ℕ → ℕ → ℕ
+publisherRate p i = min (wordOf p 176 i) 65535
+
+-- an add call
+unfoldable pub svAdded : List ℕ → ℕ → List ℕ → ℕ → RuleAdded
+svAdded p address svid rate =
+    ruleAdded (addAnswer (getD p 192 0) (length svid)) (withSvPublisher p (ruleCount (getD p 192 0)) address (plainKey svid) rate) p

@@ -4,6 +4,7 @@ ghost use mathlib.Core.Path.{_≡_};
 ghost use Prim.Native.Nat.{_≤_};
 ghost use lib.ListN.{length};
 ghost use Rattle.checks.specs.GoosePublisher.{gooseFitsAt, goosePublisher, withGoosePublisher, gooseAdded};
+use crate::keys::publisher_key;
 use crate::rules::Added;
 use crate::rules::add_answer;
 use crate::rules::rule_count;
@@ -61,20 +62,16 @@ fn store_goose_publisher(t: &mut [u64], slot: usize, address: u64, name: &[u64; 
     t[COUNT] = (slot as u64) + 1;
 }
 
-// Adds a rule; a refused one changes nothing. `name_len` is the length of the name as it was handed in.
-pub fn add_goose_publisher_in(
-    t: &mut [u64],
-    address: u64,
-    name: &[u64; 10],
-    name_len: usize,
-) -> Added
+// Adds a rule; a refused one changes nothing.
+pub fn add_goose_publisher_in(t: &mut [u64], address: u64, name: &[u8]) -> Added
     requires { ⌜ length (now t) ≡ 177 ⌝ }
-    ensures { λ r. ⌜ record { rules = now (t .exit); answer = r } ≡ gooseAdded (now (t .entry)) address (now (name .entry)) «name_len» ⌝ }
+    ensures { λ r. ⌜ record { rules = now (t .exit); answer = r } ≡ gooseAdded (now (t .entry)) address (now (name .entry)) ⌝ }
 {
     let count = t[COUNT];
-    match add_answer(count, name_len) {
+    match add_answer(count, name.len()) {
         Added::Rule => {
-            store_goose_publisher(t, rule_count(count), address, name);
+            let key = publisher_key(name);
+            store_goose_publisher(t, rule_count(count), address, &key);
             Added::Rule
         }
         Added::Error(e) => Added::Error(e),

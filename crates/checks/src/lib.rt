@@ -1,6 +1,7 @@
 // The parts of the monitor and their checks, each over the words of its part: rules, tables that remember something, reservations.
 pub mod goose_publisher;
 pub mod goose_seq;
+pub mod keys;
 pub mod mms_rule;
 pub mod rate;
 pub mod reservation;

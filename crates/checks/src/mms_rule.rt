@@ -3,12 +3,15 @@
 ghost use mathlib.Core.Path.{_≡_};
 ghost use Prim.Native.Nat.{_≤_};
 ghost use lib.ListN.{length};
-ghost use Rattle.checks.specs.MmsRule.{hasBit, applies, firstRule, flagWord, withMmsRule, mmsAdded};
+ghost use Rattle.checks.specs.MmsRule.{hasBit, applies, firstRule, ruleReadOnly, ruleRate, withMmsRule, mmsAdded};
+use crate::keys::flag_word;
 use crate::rules::Added;
 use crate::rules::add_answer;
 use crate::rules::rule_count;
 use records::search::Found;
 use tables::column::set_word;
+use tables::column::word;
+use tables::column::word16;
 
 // Where read-only flags, rates and count stand, behind the masks.
 const READ_ONLY: usize = 16;
@@ -55,11 +58,20 @@ pub fn first_rule(t: &[u64], raw: u8) -> Found
     }
 }
 
-// A flag as a word.
-fn flag_word(flag: bool) -> u64
-    ensures { λ r. ⌜ r ≡ flagWord flag ⌝ }
+// Whether the rule at a place is read-only.
+pub fn rule_read_only(t: &[u64], place: usize) -> bool
+    requires { ⌜ length (now t) ≡ 49 ⌝ }
+    ensures { λ r. ⌜ r ≡ ruleReadOnly (now (t .entry)) place ⌝ }
 {
-    if flag { 1 } else { 0 }
+    word(t, READ_ONLY, place) != 0
+}
+
+// Its rate.
+pub fn rule_rate(t: &[u64], place: usize) -> u16
+    requires { ⌜ length (now t) ≡ 49 ⌝ }
+    ensures { λ r. ⌜ r ≡ ruleRate (now (t .entry)) place ⌝ }
+{
+    word16(t, RATES, place)
 }
 
 // Stores one more rule, behind the others.

@@ -3,11 +3,12 @@
 ghost use mathlib.Core.Path.{_≡_};
 ghost use lib.ListN.{length};
 ghost use Rattle.tables.specs.Place.{ifKnown};
-ghost use Rattle.checks.specs.Rate.{saturatedTo16, bucketOf, bucketCall, rateChecked};
+ghost use Rattle.checks.specs.Rate.{bucketAt, bucketCall, rateChecked};
 use records::bucket::BucketCall;
 use records::bucket::RateBucket;
 use tables::column::set_word;
 use tables::column::word;
+use tables::column::word16;
 use tables::numbered::VALUES;
 use tables::numbered::enter_number;
 
@@ -18,21 +19,15 @@ const CAPACITIES: usize = VALUES + 16;
 
 const REFILLS: usize = VALUES + 32;
 
-// A word as a number of 16 bits; no call stores a greater one.
-fn saturated_to_16(x: u64) -> u16
-    ensures { λ r. ⌜ r ≡ saturatedTo16 x ⌝ }
-{
-    if x < 65535 { x as u16 } else { 65535 }
-}
-
-// The bucket that is kept as three words.
-fn bucket_of(tokens: u64, capacity: u64, last_refill_us: u64) -> RateBucket
-    ensures { λ r. ⌜ r ≡ bucketOf ((tokens, capacity), «last_refill_us») ⌝ }
+// The bucket of a slot.
+fn bucket_at(t: &[u64], slot: usize) -> RateBucket
+    requires { ⌜ length (now t) ≡ 80 ⌝ }
+    ensures { λ r. ⌜ r ≡ bucketAt (now (t .entry)) slot ⌝ }
 {
     RateBucket {
-        tokens: saturated_to_16(tokens),
-        capacity: saturated_to_16(capacity),
-        last_refill_us: last_refill_us,
+        tokens: word16(t, TOKENS, slot),
+        capacity: word16(t, CAPACITIES, slot),
+        last_refill_us: word(t, REFILLS, slot),
     }
 }
 
@@ -57,11 +52,7 @@ pub fn rate_check_in(t: &mut [u64], key: u32, max_rate: u16, now_us: u64) -> boo
 {
     let place = enter_number(t, key as u64);
     let slot = place.slot;
-    let kept = bucket_of(
-        word(t, TOKENS, slot),
-        word(t, CAPACITIES, slot),
-        word(t, REFILLS, slot),
-    );
+    let kept = bucket_at(t, slot);
     let call = bucket_call(place.known, kept, max_rate, now_us);
     let bucket = call.bucket;
     set_word(t, TOKENS, slot, bucket.tokens as u64);

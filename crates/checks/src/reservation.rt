@@ -2,7 +2,7 @@
 // changed: a table by name, whose numbers are the kinds, 1 for GOOSE and 0 for SV. Entries are not aged: a slot in use has rank 0.
 ghost use mathlib.Core.Path.{_≡_};
 ghost use lib.ListN.{length};
-ghost use Rattle.checks.specs.Reservation.{usedAt, cbChecked, placeFor, takenAt, reserved, ownedSlot, freedSlot, allFreed, released};
+ghost use Rattle.checks.specs.Reservation.{boundAt, cbChecked, placeFor, takenAt, reserved, ownedSlot, freedSlot, allFreed, released};
 use records::search::Found;
 use tables::column::set_word;
 use tables::column::word;
@@ -19,10 +19,10 @@ const BOUND: usize = VALUES + 16;
 
 const ADDRESSES: usize = VALUES + 32;
 
-// The use of a slot's reservation by an address: the first is bound, another is a hijack.
-fn use_at(t: &mut [u64], slot: usize, address: u64) -> bool
+// Binds a slot's reservation to the first address that uses it; another is a hijack.
+fn bind_at(t: &mut [u64], slot: usize, address: u64) -> bool
     requires { ⌜ length (now t) ≡ 224 ⌝ }
-    ensures { λ r. ⌜ record { table = now (t .exit); hijack = r } ≡ usedAt (now (t .entry)) slot address ⌝ }
+    ensures { λ r. ⌜ record { table = now (t .exit); hijack = r } ≡ boundAt (now (t .entry)) slot address ⌝ }
 {
     if word(t, BOUND, slot) == 0 {
         set_word(t, BOUND, slot, 1);
@@ -41,12 +41,12 @@ pub fn check_cb_in(t: &mut [u64], key: &[u64; 10], address: u64) -> bool
         return false;
     }
     match find_key(t, key) {
-        Found::At(i) => use_at(t, i, address),
+        Found::At(i) => bind_at(t, i, address),
         Found::Nothing => false,
     }
 }
 
-// The slot that a SelectControl takes: the one of that name and kind, or a free one.
+// The slot that a SelectControl takes: the one of that name and kind, or the first free one.
 fn place_for(t: &[u64], key: &[u64; 10]) -> Found
     requires { ⌜ length (now t) ≡ 224 ⌝ }
     ensures { λ r. ⌜ r ≡ placeFor (now (t .entry)) (now (key .entry)) ⌝ }

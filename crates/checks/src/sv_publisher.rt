@@ -3,12 +3,14 @@
 ghost use mathlib.Core.Path.{_≡_};
 ghost use Prim.Native.Nat.{_≤_};
 ghost use lib.ListN.{length};
-ghost use Rattle.checks.specs.SvPublisher.{matchAt, svPublisher, withSvPublisher, svAdded};
+ghost use Rattle.checks.specs.SvPublisher.{matchAt, svPublisher, publisherRate, withSvPublisher, svAdded};
+use crate::keys::publisher_key;
 use crate::rules::Added;
 use crate::rules::add_answer;
 use crate::rules::rule_count;
 use records::search::Found;
 use tables::column::set_word;
+use tables::column::word16;
 use tables::named::VALUES;
 use tables::named::has_key;
 use tables::named::store_key;
@@ -62,6 +64,14 @@ pub fn sv_publisher(t: &[u64], address: u64, svid: &[u64; 10]) -> PublisherMatch
     match_at(is_registered, place)
 }
 
+// The rate of the rule at a place.
+pub fn publisher_rate(t: &[u64], place: usize) -> u16
+    requires { ⌜ length (now t) ≡ 193 ⌝ }
+    ensures { λ r. ⌜ r ≡ publisherRate (now (t .entry)) place ⌝ }
+{
+    word16(t, RATES, place)
+}
+
 // Stores one more rule, behind the others.
 fn store_sv_publisher(t: &mut [u64], slot: usize, address: u64, svid: &[u64; 10], rate: u16)
     requires { ⌜ (length (now t) ≡ 193) × (slot ≤ 16) ⌝ }
@@ -73,22 +83,16 @@ fn store_sv_publisher(t: &mut [u64], slot: usize, address: u64, svid: &[u64; 10]
     t[COUNT] = (slot as u64) + 1;
 }
 
-// Adds a rule; a refused one changes nothing. `svid_len` is the length of the name as it was handed in.
-pub fn add_sv_publisher_in(
-    t: &mut [u64],
-    address: u64,
-    svid: &[u64; 10],
-    svid_len: usize,
-    rate: u16,
-) -> Added
+// Adds a rule; a refused one changes nothing.
+pub fn add_sv_publisher_in(t: &mut [u64], address: u64, svid: &[u8], rate: u16) -> Added
     requires { ⌜ length (now t) ≡ 193 ⌝ }
-    ensures { λ r.
-        ⌜ record { rules = now (t .exit); answer = r } ≡ svAdded (now (t .entry)) address (now (svid .entry)) «svid_len» rate ⌝ }
+    ensures { λ r. ⌜ record { rules = now (t .exit); answer = r } ≡ svAdded (now (t .entry)) address (now (svid .entry)) rate ⌝ }
 {
     let count = t[COUNT];
-    match add_answer(count, svid_len) {
+    match add_answer(count, svid.len()) {
         Added::Rule => {
-            store_sv_publisher(t, rule_count(count), address, svid, rate);
+            let key = publisher_key(svid);
+            store_sv_publisher(t, rule_count(count), address, &key, rate);
             Added::Rule
         }
         Added::Error(e) => Added::Error(e),

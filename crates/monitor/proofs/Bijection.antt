@@ -14,7 +14,19 @@ pub words-monitor : (l : List ℕ) → length l ≡ 1218 → wordsOf (monitorOf 
 unfolding wordsOf monitorOf
 words-monitor l z =
     let e : take 224 (drop 994 l) ≡ drop 994 l = take-all 224 (drop 994 l) (omega (arith, length-drop 994 l)) in
-    rw (e, part-on l 930 64, part-on l 738 192, part-on l 514 224, part-on l 434 80, part-on l 241 193, part-on l 64 177, part-on l 15 49, part-on l 10 5, part-on l 0 10)
+    rw (
+      e,
+      part-on l 930 64,
+      part-on l 738 192,
+      part-on l 514 224,
+      part-on l 434 80,
+      part-on l 241 193,
+      part-on l 64 177,
+      part-on l 15 49,
+      part-on
+          l 10 5,
+      part-on l 0 10,
+    )
 
 -- the rest behind a part, and the part
 module _ (l p r : List ℕ) (b n : ℕ) (e : drop b l ≡ p ++ r) (z : length p ≡ n) where

@@ -6,7 +6,8 @@ use native.Mathlib.Omega.{arith}
 use borrow.Rule.Slice.PartMut.{putMid}
 use lib.ListN.{length, take, drop, take-append-drop, length-drop}
 use lib.Seq.{take-append-le, drop-append-le, take-at, drop-at, drop-drop, length-take-le}
-use Rattle.monitor.specs.Monitor.{Monitor, monitorOf, withSettings, withTotals, withMmsRules, withGoosePublishers, withSvPublishers, withRateBuckets, withGooseSeq, withSvSeq, withTimeTrackers, withCbReservations}
+use Rattle.monitor.specs.Monitor.{Monitor, monitorOf, withSettings, withTotals, withMmsRules, withGoosePublishers}
+use Rattle.monitor.specs.Monitor.{withSvPublishers, withRateBuckets, withGooseSeq, withSvSeq, withTimeTrackers, withCbReservations}
 use Rattle.monitor.specs.Parts.{After, after}
 
 -- the n words from a on are replaced by t

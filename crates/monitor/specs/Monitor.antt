@@ -36,7 +36,8 @@ monitorOf l =
 -- the words of the parts
 unfoldable pub wordsOf : Monitor → List ℕ
 wordsOf m =
-    m .settings ++ (m .totals ++ (m .«mms_rules» ++ (m .«goose_publishers» ++ (m .«sv_publishers» ++ (m .«rate_buckets» ++ (m .«goose_seq» ++ (m .«sv_seq» ++ (m .«time_trackers» ++ m .«cb_reservations»))))))))
+    m .settings ++ (m .totals ++ (m .«mms_rules» ++ (m .«goose_publishers» ++
+    (m .«sv_publishers» ++ (m .«rate_buckets» ++ (m .«goose_seq» ++ (m .«sv_seq» ++ (m .«time_trackers» ++ m .«cb_reservations»))))))))
 
 -- parts of their sizes
 pub record Sized (m : Monitor) : Type 0 where

@@ -12,7 +12,8 @@ use Rattle.checks.specs.Reservation.{cbChecked, reserved, released}
 use Rattle.checks.specs.SvPublisher.{svAdded}
 use Rattle.checks.specs.SvSeq.{svChecked}
 use Rattle.checks.specs.TimeField.{timeChecked}
-use Rattle.monitor.specs.Monitor.{Monitor, withCbReservations, withGoosePublishers, withGooseSeq, withMmsRules, withRateBuckets, withSvPublishers, withSvSeq, withTimeTrackers}
+use Rattle.monitor.specs.Monitor.{Monitor, withCbReservations, withGoosePublishers, withGooseSeq}
+use Rattle.monitor.specs.Monitor.{withMmsRules, withRateBuckets, withSvPublishers, withSvSeq, withTimeTrackers}
 
 -- a monitor, and an answer
 pub record After (A : Type 0) : Type 0 where
@@ -47,8 +48,8 @@ releasedOn m key client = withCbReservations m (released (m .«cb_reservations»
 unfoldable pub mmsAddedOn : Monitor → ℕ → Bool → ℕ → After Added
 mmsAddedOn m mask readOnly rate = after (withMmsRules m) (λ c. c .rules) (λ c. c .answer) (mmsAdded (m .«mms_rules») mask readOnly rate)
 
-unfoldable pub gooseAddedOn : Monitor → ℕ → List ℕ → ℕ → After Added
-gooseAddedOn m address name nameLength = after (withGoosePublishers m) (λ c. c .rules) (λ c. c .answer) (gooseAdded (m .«goose_publishers») address name nameLength)
+unfoldable pub gooseAddedOn : Monitor → ℕ → List ℕ → After Added
+gooseAddedOn m address name = after (withGoosePublishers m) (λ c. c .rules) (λ c. c .answer) (gooseAdded (m .«goose_publishers») address name)
 
-unfoldable pub svAddedOn : Monitor → ℕ → List ℕ → ℕ → ℕ → After Added
-svAddedOn m address svid nameLength rate = after (withSvPublishers m) (λ c. c .rules) (λ c. c .answer) (svAdded (m .«sv_publishers») address svid nameLength rate)
+unfoldable pub svAddedOn : Monitor → ℕ → List ℕ → ℕ → After Added
+svAddedOn m address svid rate = after (withSvPublishers m) (λ c. c .rules) (λ c. c .answer) (svAdded (m .«sv_publishers») address svid rate)

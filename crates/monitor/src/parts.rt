@@ -42,28 +42,54 @@ pub fn check_sv_seq_on(m: &mut [u64; 1218], svid: &[u64; 10], smp_cnt: u16) -> S
 }
 
 // Checks a frame's numbers.
-fn check_goose_seq_lent(m: &mut [u64], key: &[u64; 10], st_num: u32, sq_num: u32, now_us: u64) -> bool
+fn check_goose_seq_lent(
+    m: &mut [u64],
+    key: &[u64; 10],
+    st_num: u32,
+    sq_num: u32,
+    now_us: u64,
+) -> bool
     requires { ⌜ length (now m) ≡ 1218 ⌝ }
-    ensures { λ r. ⌜ record { monitor = monitorOf (now (m .exit)); answer = r } ≡ gooseSeqOn (monitorOf (now (m .entry))) (now (key .entry)) ((«st_num», «sq_num»), «now_us») ⌝ }
+    ensures { λ r. ⌜ record { monitor = monitorOf (now (m .exit)); answer = r }
+        ≡ gooseSeqOn (monitorOf (now (m .entry))) (now (key .entry)) ((«st_num», «sq_num»), «now_us») ⌝ }
 {
     check_goose_seq_in(&mut m[514..738], key, st_num, sq_num, now_us)
 }
 
-pub fn check_goose_seq_on(m: &mut [u64; 1218], key: &[u64; 10], st_num: u32, sq_num: u32, now_us: u64) -> bool
-    ensures { λ r. ⌜ record { monitor = monitorOf (now (m .exit)); answer = r } ≡ gooseSeqOn (monitorOf (now (m .entry))) (now (key .entry)) ((«st_num», «sq_num»), «now_us») ⌝ }
+pub fn check_goose_seq_on(
+    m: &mut [u64; 1218],
+    key: &[u64; 10],
+    st_num: u32,
+    sq_num: u32,
+    now_us: u64,
+) -> bool
+    ensures { λ r. ⌜ record { monitor = monitorOf (now (m .exit)); answer = r }
+        ≡ gooseSeqOn (monitorOf (now (m .entry))) (now (key .entry)) ((«st_num», «sq_num»), «now_us») ⌝ }
 {
     check_goose_seq_lent(m, key, st_num, sq_num, now_us)
 }
 
 // Checks a frame's time.
-fn check_time_field_lent(m: &mut [u64], limit: u32, address: u64, seconds: u32, fraction: u32) -> bool
+fn check_time_field_lent(
+    m: &mut [u64],
+    limit: u32,
+    address: u64,
+    seconds: u32,
+    fraction: u32,
+) -> bool
     requires { ⌜ length (now m) ≡ 1218 ⌝ }
     ensures { λ r. ⌜ record { monitor = monitorOf (now (m .exit)); answer = r } ≡ timeFieldOn (monitorOf (now (m .entry))) limit address (seconds, fraction) ⌝ }
 {
     check_time_field_in(&mut m[930..994], limit, address, seconds, fraction)
 }
 
-pub fn check_time_field_on(m: &mut [u64; 1218], limit: u32, address: u64, seconds: u32, fraction: u32) -> bool
+pub fn check_time_field_on(
+    m: &mut [u64; 1218],
+    limit: u32,
+    address: u64,
+    seconds: u32,
+    fraction: u32,
+) -> bool
     ensures { λ r. ⌜ record { monitor = monitorOf (now (m .exit)); answer = r } ≡ timeFieldOn (monitorOf (now (m .entry))) limit address (seconds, fraction) ⌝ }
 {
     check_time_field_lent(m, limit, address, seconds, fraction)
@@ -140,31 +166,31 @@ pub fn add_mms_rule_on(m: &mut [u64; 1218], mask: u16, read_only: bool, rate: u1
 }
 
 // Adds a GOOSE publisher.
-fn add_goose_publisher_lent(m: &mut [u64], address: u64, name: &[u64; 10], name_len: usize) -> Added
+fn add_goose_publisher_lent(m: &mut [u64], address: u64, name: &[u8]) -> Added
     requires { ⌜ length (now m) ≡ 1218 ⌝ }
-    ensures { λ r. ⌜ record { monitor = monitorOf (now (m .exit)); answer = r } ≡ gooseAddedOn (monitorOf (now (m .entry))) address (now (name .entry)) «name_len» ⌝ }
+    ensures { λ r. ⌜ record { monitor = monitorOf (now (m .exit)); answer = r } ≡ gooseAddedOn (monitorOf (now (m .entry))) address (now (name .entry)) ⌝ }
 {
-    add_goose_publisher_in(&mut m[64..241], address, name, name_len)
+    add_goose_publisher_in(&mut m[64..241], address, name)
 }
 
-pub fn add_goose_publisher_on(m: &mut [u64; 1218], address: u64, name: &[u64; 10], name_len: usize) -> Added
-    ensures { λ r. ⌜ record { monitor = monitorOf (now (m .exit)); answer = r } ≡ gooseAddedOn (monitorOf (now (m .entry))) address (now (name .entry)) «name_len» ⌝ }
+pub fn add_goose_publisher_on(m: &mut [u64; 1218], address: u64, name: &[u8]) -> Added
+    ensures { λ r. ⌜ record { monitor = monitorOf (now (m .exit)); answer = r } ≡ gooseAddedOn (monitorOf (now (m .entry))) address (now (name .entry)) ⌝ }
 {
-    add_goose_publisher_lent(m, address, name, name_len)
+    add_goose_publisher_lent(m, address, name)
 }
 
 // Adds an SV publisher.
-fn add_sv_publisher_lent(m: &mut [u64], address: u64, svid: &[u64; 10], svid_len: usize, rate: u16) -> Added
+fn add_sv_publisher_lent(m: &mut [u64], address: u64, svid: &[u8], rate: u16) -> Added
     requires { ⌜ length (now m) ≡ 1218 ⌝ }
-    ensures { λ r. ⌜ record { monitor = monitorOf (now (m .exit)); answer = r } ≡ svAddedOn (monitorOf (now (m .entry))) address (now (svid .entry)) «svid_len» rate ⌝ }
+    ensures { λ r. ⌜ record { monitor = monitorOf (now (m .exit)); answer = r } ≡ svAddedOn (monitorOf (now (m .entry))) address (now (svid .entry)) rate ⌝ }
 {
-    add_sv_publisher_in(&mut m[241..434], address, svid, svid_len, rate)
+    add_sv_publisher_in(&mut m[241..434], address, svid, rate)
 }
 
-pub fn add_sv_publisher_on(m: &mut [u64; 1218], address: u64, svid: &[u64; 10], svid_len: usize, rate: u16) -> Added
-    ensures { λ r. ⌜ record { monitor = monitorOf (now (m .exit)); answer = r } ≡ svAddedOn (monitorOf (now (m .entry))) address (now (svid .entry)) «svid_len» rate ⌝ }
+pub fn add_sv_publisher_on(m: &mut [u64; 1218], address: u64, svid: &[u8], rate: u16) -> Added
+    ensures { λ r. ⌜ record { monitor = monitorOf (now (m .exit)); answer = r } ≡ svAddedOn (monitorOf (now (m .entry))) address (now (svid .entry)) rate ⌝ }
 {
-    add_sv_publisher_lent(m, address, svid, svid_len, rate)
+    add_sv_publisher_lent(m, address, svid, rate)
 }
 
 // The first MMS rule that applies.
@@ -210,14 +236,28 @@ pub fn sv_publisher_on(m: &[u64; 1218], address: u64, svid: &[u64; 10]) -> Publi
 }
 
 // Whether a frame misses the retransmission schedule.
-fn retx_anomaly_lent(m: &[u64], key: &[u64; 10], schedule: RetxSchedule, st_num: u32, sq_num: u32, now_us: u64) -> bool
+fn retx_anomaly_lent(
+    m: &[u64],
+    key: &[u64; 10],
+    schedule: RetxSchedule,
+    st_num: u32,
+    sq_num: u32,
+    now_us: u64,
+) -> bool
     requires { ⌜ length (now m) ≡ 1218 ⌝ }
     ensures { λ r. ⌜ r ≡ retxChecked schedule (monitorOf (now (m .entry)) .«goose_seq») (now (key .entry)) ((«st_num», «sq_num»), «now_us») ⌝ }
 {
     retx_anomaly(&m[514..738], key, schedule, st_num, sq_num, now_us)
 }
 
-pub fn retx_anomaly_on(m: &[u64; 1218], key: &[u64; 10], schedule: RetxSchedule, st_num: u32, sq_num: u32, now_us: u64) -> bool
+pub fn retx_anomaly_on(
+    m: &[u64; 1218],
+    key: &[u64; 10],
+    schedule: RetxSchedule,
+    st_num: u32,
+    sq_num: u32,
+    now_us: u64,
+) -> bool
     ensures { λ r. ⌜ r ≡ retxChecked schedule (monitorOf (now (m .entry)) .«goose_seq») (now (key .entry)) ((«st_num», «sq_num»), «now_us») ⌝ }
 {
     retx_anomaly_lent(m, key, schedule, st_num, sq_num, now_us)

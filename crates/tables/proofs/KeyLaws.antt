@@ -52,14 +52,16 @@ module _ (octets : List ℕ) (len : ℕ) (size : length octets ≡ 64) where
       padded-at octets (validLen len) k h
       ∙ by-cases (decLt k (validLen len))
       (λ l. cond-yes _ _ (lt-ltb k (validLen len) l) ∙ sym (getD-take (validLen len) octets k 0 l))
-      (λ l. cond-no _ _ (le-ltb k (validLen len) (omega arith)) ∙ sym (List·getD-eq-default (nameOf octets len) 0 {n = k} (omega (arith, length-name octets len size))))
+      (λ l. cond-no _ _ (le-ltb k (validLen len) (omega arith))
+      ∙ sym (List·getD-eq-default (nameOf octets len) 0 {n = k} (omega (arith, length-name octets len size))))
 
   name-word : (k : ℕ) → k < 8 → packed (λ j. octetAt (padded octets (validLen len)) (k * 8 + j)) 8 ≡ nameWord (nameOf octets len) k
   unfolding nameWord
   name-word k h = packed-same _ _ 8 (λ j l. octet-same (k * 8 + j) (omega arith))
 
   pub key-of-frame : (number : ℕ) {sum valid : ℕ} {name key : List ℕ} → valid ≡ validLen len → name ≡ padded octets valid
-      → sum ≡ summed number (λ k. packed (λ j. octetAt name (k * 8 + j)) 8) 8 → key ≡ overwritten (replicate 10 0) 2 (λ k. packed (λ j. octetAt name (k * 8 + j)) 8) 8
+      → sum ≡ summed number (λ k. packed (λ j. octetAt name (k * 8 + j)) 8) 8
+      → key ≡ overwritten (replicate 10 0) 2 (λ k. packed (λ j. octetAt name (k * 8 + j)) 8) 8
       → set (set key 0 sum) 1 valid ≡ keyOf number (nameOf octets len)
   unfolding keyOf
   key-of-frame number {sum} {valid} {name} v n s e =
@@ -94,7 +96,8 @@ octet-of-word a b oa ob word k h =
     let i = k / 8 in
     let r = k % 8 in
     let s : i * 8 + r ≡ k = omega arith in
-    rw s at (packed-injective (λ j. octetAt a (i * 8 + j)) (λ j. octetAt b (i * 8 + j)) 8 (λ j. oa (i * 8 + j)) (λ j. ob (i * 8 + j)) (word i (omega arith)) r (omega arith))
+    rw s at (packed-injective (λ j. octetAt a (i * 8 + j)) (λ j. octetAt b (i * 8 + j)) 8 (λ j. oa (i * 8 + j)) (λ j. ob (i * 8 + j))
+    (word i (omega arith)) r (omega arith))
 
 -- a number of 64 bits and a name of at most 64 octets
 pub record LegalKey (number : ℕ) (name : List ℕ) : Type 0 where

@@ -1,9 +1,8 @@
 -- Tables under keys that are mapped to their own, as names to their ten words: such a table holds the list that its history leaves remembered and answers as
--- that list, so two histories leave tables that answer alike exactly when they leave equal lists remembered, and others are told apart by at most
--- sixteen frames. For histories of any length.
+-- that list. So, for answers that tell values apart, two histories leave tables that answer alike exactly when they leave equal lists remembered,
+-- and others are told apart by at most sixteen frames. For histories of any length.
 use Prim.Native.Nat.{ℕ, _≤_, _<_}
 use mathlib.Core.List.{List, [], _∷_, foldl, reverse}
-use mathlib.Core.Bool.{true}
 use mathlib.Core.Logic.{_≢_, _↔_}
 use mathlib.Core.Option.{Option}
 use mathlib.Core.Path.{_≡_, refl, sym, _∙_}
@@ -13,8 +12,7 @@ use Rattle.records.proofs.Distinguish.{outputs, answers, Observable, Legal, lef
 use Rattle.records.proofs.KeyedLists.{All, all-weaker, all-take, all-without}
 use Rattle.records.specs.Remembered.{lookup, without, after, remembered}
 use Rattle.tables.proofs.MappedKeys.{mapped, lookup-mapped, without-mapped, touch-mapped}
-use Rattle.tables.proofs.RankTable.{Table, rank, entry, Represents, represents-forgotten, represents-none, value-lookup, next, represents-stepped}
-use Rattle.tables.specs.Order.{inUse, forgottenRank}
+use Rattle.tables.proofs.RankTable.{Table, rank, Represents, represents-none, value-lookup, next, represents-stepped}
 use Rattle.tables.specs.Table.{valueOf}
 
 -- an injective map into the keys of a table
@@ -41,14 +39,11 @@ module _ {J K W : Type 0} {B : Table K W} (N : KeyMap J B) where
       value-lookup B (N .decideKey) (r .represents) (N .key j) (N .legal j g)
       ∙ lookup-mapped (N .decide) (N .decideKey) (N .key) (N .Legal) (N .injective) j g l (r .legal)
 
-  -- an entry forgotten goes from the list: the ranks close up, and the entries of the slots are as before
-  pub holds-forgotten : {t u : B .State} {l : List (J × W)} → Holds t l → (s : ℕ) → s < 16 → inUse (rank B t) s ≡ true → (j : J) → N .Legal j → B .key t s ≡ N .key j
-      → B .Sized u → ((i : ℕ) → i < 16 → rank B u i ≡ forgottenRank (rank B t) s i) → ((i : ℕ) → entry B u i ≡ entry B t i) → Holds u (without (N .decide) j l)
-  holds-forgotten {u = u} {l} r s h e j g k z f same = record {
-    represents = rw (
-      ← without-mapped (N .decide) (N .decideKey) (N .key) (N .Legal) (N .injective) j g l (r .legal),
-      ← k,
-    ) (represents-forgotten B (N .decideKey) (r .represents) s h e {u = u} z f same);
+  -- an entry forgotten goes from the list
+  pub holds-forgotten : {t u : B .State} {l : List (J × W)} → Holds t l → (j : J) → N .Legal j
+      → Represents B u (without (N .decideKey) (N .key j) (mapped (N .key) l)) → Holds u (without (N .decide) j l)
+  holds-forgotten {l = l} r j g u = record {
+    represents = rw (← without-mapped (N .decide) (N .decideKey) (N .key) (N .Legal) (N .injective) j g l (r .legal)) u;
     legal = all-without (N .decide) (λ e. N .Legal (e .0)) j l (r .legal);
   }
 
@@ -57,7 +52,8 @@ module _ {J K W I : Type 0} {B : Table K W} (N : KeyMap J B) (fresh : I → W) (
   abbrev pub afterFrame : B .State → J × I → B .State
   afterFrame t x = next B fresh step t (N .key (x .0), x .1)
 
-  pub holds-after : {t : B .State} {l : List (J × W)} → Holds N t l → (x : J × I) → N .Legal (x .0) → Holds N (afterFrame t x) (touch (N .decide) 16 fresh step l x)
+  pub holds-after : {t : B .State} {l : List (J × W)} → Holds N t l → (x : J × I) → N .Legal (x .0)
+      → Holds N (afterFrame t x) (touch (N .decide) 16 fresh step l x)
   holds-after {l = l} r x g = record {
     represents = rw (← touch-mapped (N .decide) (N .decideKey) (N .key) (N .Legal) (N .injective) 16 fresh step l x (r .legal) g)
         (represents-stepped B fresh step (N .decideKey) (r .represents) (N .key (x .0), x .1) (N .legal (x .0) g));

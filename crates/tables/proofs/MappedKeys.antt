@@ -12,7 +12,8 @@ use Rattle.records.specs.Remembered.{lookup, without, after}
 abbrev pub mapped : {J K A : Type 0} → (J → K) → List (J × A) → List (K × A)
 mapped f = map (λ e. (f (e .0), e .1))
 
-module _ {J K : Type 0} (decJ : Discrete J) (decK : Discrete K) (f : J → K) (Legal : J → Type 0) (injective : (j k : J) → Legal j → Legal k → f j ≡ f k → j ≡ k) where
+module _ {J K : Type 0} (decJ : Discrete J) (decK : Discrete K) (f : J → K) (Legal : J → Type 0)
+    (injective : (j k : J) → Legal j → Legal k → f j ≡ f k → j ≡ k) where
   module _ {A : Type 0} (j : J) (g : Legal j) where
     pub lookup-mapped : (l : List (J × A)) → All (λ e. Legal (e .0)) l → lookup decK (f j) (mapped f l) ≡ lookup decJ j l
     lookup-mapped [] a = refl

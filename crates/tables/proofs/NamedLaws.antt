@@ -27,7 +27,8 @@ module _ (t key : List ℕ) (slot : ℕ) where
       pub length-differs : (getD t (32 + slot) 0 ≡ getD key 1 0 → ⊥) → false ≡ hasKey t key slot
       unfolding hasKey
       length-differs d =
-          sym (and-yes (lt-ltb slot 16 h) (and-yes (eq-eqb (getD t (16 + slot) 0) (getD key 0 0) e) (and-no _ (ne-eqb (getD t (32 + slot) 0) (getD key 1 0) d))))
+          sym (and-yes (lt-ltb slot 16 h) (and-yes (eq-eqb (getD t (16 + slot) 0) (getD key 0 0) e)
+          (and-no _ (ne-eqb (getD t (32 + slot) 0) (getD key 1 0) d))))
 
       pub name-decides : {r : Bool} → getD t (32 + slot) 0 ≡ getD key 1 0
           → r ≡ agree (λ k. getD t (48 + slot * 8 + k) 0) (λ k. getD key (k + 2) 0) 8 → r ≡ hasKey t key slot

@@ -12,7 +12,8 @@ use borrow.Author.Tests.{lt-ltb, le-ltb, eq-eqb, ne-eqb, ltb-true, leb-true, leb
 use lib.Dec.{ltb, leb}
 use lib.ListN.{length, take}
 use lib.Seq.{take-all}
-use Rattle.records.proofs.KeyedLists.{Distinct, pairwise-without, absent-without, without-absent, lookup-absent, lookup-without, absent-none, length-at-most, length-at-least}
+use Rattle.records.proofs.KeyedLists.{Distinct, pairwise-without, absent-without, without-absent}
+use Rattle.records.proofs.KeyedLists.{lookup-absent, lookup-without, absent-none, length-at-most, length-at-least}
 use Rattle.records.specs.declared.search.Found.{Found}
 use Rattle.records.specs.declared.search.Found.the-variants.{At, Nothing}
 use Rattle.records.specs.Remembered.{lookup, without}
@@ -45,7 +46,8 @@ position-from p i (e ∷ o) h n =
 position-absent : (p i : ℕ) (o : Slots) → lookSlot i o ≡ none → positionFrom p i o ≡ 16
 position-absent p i [] q = refl
 position-absent p i (e ∷ o) q =
-    by-cases (ℕ-discrete i (e .0)) (λ z. absurd (Option·none-ne-some tt (sym q ∙ simp if-pos))) (λ z. simp if-neg (position-absent (suc p) i o (simp if-neg at q)))
+    by-cases (ℕ-discrete i (e .0)) (λ z. absurd (Option·none-ne-some tt (sym q ∙ simp if-pos)))
+    (λ z. simp if-neg (position-absent (suc p) i o (simp if-neg at q)))
 
 position-there : (p i : ℕ) (o : Slots) → length o + p ≤ 16 → positionFrom p i o < 16 → lookSlot i o ≡ some tt
 position-there p i [] n h = absurd (omega arith)
@@ -77,13 +79,15 @@ lowered-free old = go (ltb old 16)
     go false = refl
 
 -- a use of slot s: the others that stood before it move up
-position-used : (p i s : ℕ) (o : Slots) → i ≢ s → Distinct o → length o + p ≤ 16 → positionFrom (suc p) i (withoutSlot s o) ≡ raised (positionFrom p s o) (positionFrom p i o)
+position-used : (p i s : ℕ) (o : Slots) → i ≢ s → Distinct o → length o + p ≤ 16
+    → positionFrom (suc p) i (withoutSlot s o) ≡ raised (positionFrom p s o) (positionFrom p i o)
 position-used p i s [] n d h = refl
 position-used p i s (e ∷ o) n d h =
     by-cases (ℕ-discrete s (e .0))
     (λ q.
     let m : i ≢ e .0 = λ z. n (z ∙ sym q) in
-    simp (if-pos, if-neg, without-absent ℕ-discrete s o (rw (← q) at (d .0))) (sym (raised-above (omega (arith, position-from (suc p) i o (omega arith) (omega arith))))))
+    simp (if-pos, if-neg, without-absent ℕ-discrete s o (rw (← q) at (d .0)))
+    (sym (raised-above (omega (arith, position-from (suc p) i o (omega arith) (omega arith))))))
     (λ q. by-cases (ℕ-discrete i (e .0))
     (λ z. simp (if-pos, if-neg) (sym (raised-below (omega (arith, position-from (suc p) s o (omega arith) (omega arith))))))
     (λ z. simp if-neg (position-used (suc p) i s o n (d .1) (omega arith))))
@@ -117,7 +121,8 @@ without-last p s (e ∷ []) n q = by-cases (ℕ-discrete s (e .0)) (λ z. rw if-
 without-last p s (e ∷ f ∷ o) n q =
     by-cases (ℕ-discrete s (e .0))
     (λ z. absurd (let v = simp if-pos at q in omega arith))
-    (λ z. let m : suc (suc (length o)) - 1 ≡ suc (suc (length o) - 1) = omega arith in rw m (simp (if-neg, without-last (suc p) s (f ∷ o) (omega arith) (let v = simp if-neg at q in omega arith))))
+    (λ z. let m : suc (suc (length o)) - 1 ≡ suc (suc (length o) - 1) = omega arith in rw m
+    (simp (if-neg, without-last (suc p) s (f ∷ o) (omega arith) (let v = simp if-neg at q in omega arith))))
 
 -- a new key's slot is one of the sixteen, and those before it have ranks below 15
 module _ (rank : ℕ → ℕ) where
@@ -168,7 +173,8 @@ module _ {rank : ℕ → ℕ} {o : Slots} (r : Order rank o) where
       ranked = λ i l.
           by-cases (ℕ-discrete i s)
           (λ e. u i l ∙ rw (eq-eqb i s e) (sym (simp if-pos)))
-          (λ e. u i l ∙ rw (ne-eqb i s e, r .ranked s h, r .ranked i l) (sym (simp if-neg (position-used 0 i s o e (r .distinct) (omega (arith, order-length))))));
+          (λ e. u i l ∙ rw (ne-eqb i s e, r .ranked s h, r .ranked i l)
+          (sym (simp if-neg (position-used 0 i s o e (r .distinct) (omega (arith, order-length))))));
     }
 
     pub order-short : length (withoutSlot s o) ≤ 15
@@ -255,7 +261,8 @@ position-shift p i o n = go (lookSlot i o) refl
     go (some x) q =
         let e = shifted p o q in
         let l : lowered p (suc (positionFrom p i o)) ≡ suc (positionFrom p i o) - 1 =
-        lowered-above {old = p} {x = suc (positionFrom p i o)} (omega (arith, position-from p i o (omega arith) (omega arith))) (omega (arith, position-in (suc p) i o q)) in
+        lowered-above {old = p} {x = suc (positionFrom p i o)} (omega (arith, position-from p i o (omega arith) (omega arith)))
+        (omega (arith, position-in (suc p) i o q)) in
         let m : suc (positionFrom p i o) - 1 ≡ positionFrom p i o = omega arith in
         sym (ap (lowered p) e ∙ l ∙ m)
 
@@ -279,6 +286,8 @@ order-forgotten {o = o} r s h e u = record {
   below = λ i l. let n : i ≢ s = λ e. omega arith in lookup-without ℕ-discrete i s o n ∙ r .below i l;
   ranked = λ i l.
       by-cases (ℕ-discrete i s)
-      (λ q. u i l ∙ rw (eq-eqb i s q) (sym (position-absent 0 i (withoutSlot s o) (rw q (lookup-absent ℕ-discrete s (withoutSlot s o) (absent-without ℕ-discrete s o))))))
-      (λ q. u i l ∙ rw (ne-eqb i s q, r .ranked s h, r .ranked i l) (sym (position-forgotten 0 i s o q (r .distinct) (omega (arith, order-length r)) (in-use-there r s h e))));
+      (λ q. u i l ∙ rw (eq-eqb i s q) (sym (position-absent 0 i (withoutSlot s o)
+      (rw q (lookup-absent ℕ-discrete s (withoutSlot s o) (absent-without ℕ-discrete s o))))))
+      (λ q. u i l ∙ rw (ne-eqb i s q, r .ranked s h, r .ranked i l)
+      (sym (position-forgotten 0 i s o q (r .distinct) (omega (arith, order-length r)) (in-use-there r s h e))));
 }

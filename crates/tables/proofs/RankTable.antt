@@ -8,10 +8,12 @@ use mathlib.Core.Path.{_≡_, refl, sym, ap, _∙_}
 use native.Mathlib.Decide.{ℕ-discrete}
 use lib.ListN.{take, length-map}
 use lib.Seq.{take-all}
-use Rattle.tables.proofs.RankOrder.{Slots, lookSlot, withoutSlot, Order, order-none, in-use-there, there-in-use, order-used, order-short, order-forgotten, new-slot}
+use Rattle.tables.proofs.RankOrder.{Slots, lookSlot, withoutSlot, Order, order-none}
+use Rattle.tables.proofs.RankOrder.{in-use-there, there-in-use, order-used, order-short, order-forgotten, new-slot}
 use Rattle.records.proofs.Booleans.{and-both, and-yes}
 use Rattle.records.proofs.ByLastUse.{touch, touch-distinct}
-use Rattle.records.proofs.KeyedLists.{Absent, Distinct, pairwise-without, lookup-absent, absent-without, without-absent, all-found, entriesOf, entries-other, entries-absent, entries-take, entries-without, entries-lookup}
+use Rattle.records.proofs.KeyedLists.{Absent, Distinct, pairwise-without, lookup-absent, absent-without, without-absent}
+use Rattle.records.proofs.KeyedLists.{all-found, entriesOf, entries-other, entries-absent, entries-take, entries-without, entries-lookup}
 use Rattle.records.proofs.SearchLaws.{Searched, hit, miss, searched}
 use Rattle.records.specs.declared.search.Found.{Found}
 use Rattle.records.specs.declared.search.Found.the-variants.{At, Nothing}
@@ -66,7 +68,8 @@ module _ {K W : Type 0} (B : Table K W) (dec : Discrete K) {t : B .State} {l : L
   located = go (searched (λ i. B .columns .matches t k i && inUse (rank B t) i) 0 16)
     where
       go : {f : Found} → Searched (λ i. B .columns .matches t k i && inUse (rank B t) i) 0 16 f → Located f
-      go (hit s h e) = let b = and-both (B .columns .matches t k s) (inUse (rank B t) s) e in known s h (in-use-there (r .ordered) s h (b .1)) (B .matched t k s (r .sized) g h .0 (b .0))
+      go (hit s h e) = let b = and-both (B .columns .matches t k s) (inUse (rank B t) s) e in known s h (in-use-there (r .ordered) s h (b .1))
+          (B .matched t k s (r .sized) g h .0 (b .0))
       go (miss f) = new (rw (r .entries) at (entries-absent (entry B t) k (r .order) (all-found ℕ-discrete _ (r .order) (r .ordered .distinct) (λ e q p.
           let u = there-in-use (r .ordered) (e .0) q in
           true≢false (sym (and-yes (B .matched t k (e .0) (r .sized) g (u .0) .1 p) (u .1)) ∙ f (e .0) zero-le (u .0))))))
@@ -101,8 +104,10 @@ module _ {K W : Type 0} (B : Table K W) (dec : Discrete K) {t : B .State} {l : L
   target-below = target-rest .0
 
 -- a slot in use forgotten: the ranks close up, and the entries of the slots are as before
-module _ {K W : Type 0} (B : Table K W) (dec : Discrete K) {t : B .State} {l : List (K × W)} (r : Represents B t l) (s : ℕ) (h : s < 16) (e : inUse (rank B t) s ≡ true) where
-  pub represents-forgotten : {u : B .State} → B .Sized u → ((i : ℕ) → i < 16 → rank B u i ≡ forgottenRank (rank B t) s i) → ((i : ℕ) → entry B u i ≡ entry B t i)
+module _ {K W : Type 0} (B : Table K W) (dec : Discrete K) {t : B .State} {l : List (K × W)} (r : Represents B t l) (s : ℕ) (h : s < 16)
+    (e : inUse (rank B t) s ≡ true) where
+  pub represents-forgotten : {u : B .State} → B .Sized u → ((i : ℕ) → i < 16 → rank B u i ≡ forgottenRank (rank B t) s i)
+      → ((i : ℕ) → entry B u i ≡ entry B t i)
       → Represents B u (without dec (B .key t s) l)
   represents-forgotten {u} z f same =
       let q = in-use-there (r .ordered) s h e in
@@ -138,7 +143,8 @@ module _ {K W I : Type 0} (B : Table K W) (fresh : I → W) (step : W → I → 
               rw (
                 z .same .0,
                 z .same .1,
-                entries-other (entry B t) (entry B (next t x)) s rest (λ i n. let o = z .other i n in λ j. (o .0 j, o .1 j)) (absent-without ℕ-discrete s (r .order)),
+                entries-other (entry B t) (entry B (next t x)) s rest (λ i n. let o = z .other i n in λ j. (o .0 j, o .1 j))
+                    (absent-without ℕ-discrete s (r .order)),
                 b .1,
                 value-lookup B dec r (x .0) g,
               );

@@ -34,7 +34,8 @@ module _ {K W I : Type 0} (B : Table K W) (dec : Discrete K) (rule : EqualAges) 
       let b = target-below B dec r (x .0) (g .0) in
       let p : targetByAge (B .columns) rule fresh step (t, ticks) (x .0) ≡ s =
       ap (λ (o : ℕ). slotOr o (slotOf (B .columns) t (x .0))) (sym (agreed a rule) ∙ sym (new-slot-same (rank B t) f e)) in
-      ap (λ (u : B .State × Ticks). foldl byAge u h .0) (ap (λ (o : ℕ). (B .columns .store t o (x .0) (after fresh step (valueOf (B .columns) t (x .0)) (x .1)), ticked ticks o)) p)
+      ap (λ (u : B .State × Ticks). foldl byAge u h .0) (ap (λ (o : ℕ).
+      (B .columns .store t o (x .0) (after fresh step (valueOf (B .columns) t (x .0)) (x .1)), ticked ticks o)) p)
       ∙ (same-tables h (represents-stepped B fresh step dec r x (g .0)) (agrees-used a s b (omega arith))
       (λ i l. B .stored t s (x .0) _ (r .sized) (g .0) b .uses i l ∙ rw (e s b, e i l)) (g .1) (omega arith))
 

@@ -101,7 +101,8 @@ bothLaws {a = a} {b = b} la lb =
           let x = la .back (w .0) f (λ k l. e k (omega arith) ∙ List·getD-append (a .words (w .0)) (b .words (w .1)) 0 k (omega (arith, la .size (w .0)))) in
           let y = lb .back (w .1) (λ k. f (k + a .count)) (λ k l.
           let q : k + a .count ≡ length (a .words (w .0)) + k = omega (arith, la .size (w .0)) in
-          e (k + a .count) (omega arith) ∙ ap (λ (x : ℕ). getD (a .words (w .0) ++ b .words (w .1)) x 0) q ∙ getD-append-add (a .words (w .0)) (b .words (w .1)) k 0) in
+          e (k + a .count) (omega arith) ∙ ap (λ (x : ℕ). getD (a .words (w .0) ++ b .words (w .1)) x 0) q
+          ∙ getD-append-add (a .words (w .0)) (b .words (w .1)) k 0) in
           λ i. (x i, y i);
       same = λ f g e.
           let x = la .same f g (λ k l. e k (omega arith)) in
@@ -167,7 +168,8 @@ module _ {K W : Type 0} (keys : KeyColumns K) (L : KeyColumnLaws keys) (encoding
     value-back =
         E .back w _ (λ j l.
         word-at withValue s h (j * 16 + keys .values)
-        ∙ values-in s h (encoding .words w) withUse (keys .values) j (j * 16 + keys .values + s) (omega (arith, length-with-use, E .size w)) (omega (arith, E .size w)) (omega arith))
+        ∙ values-in s h (encoding .words w) withUse (keys .values) j (j * 16 + keys .values + s) (omega (arith, length-with-use, E .size w))
+        (omega (arith, E .size w)) (omega arith))
 
     pub other-value : (i : ℕ) → i ≢ s → encoding .read (valueWord withValue (keys .values) i) ≡ encoding .read (valueWord t (keys .values) i)
     other-value i n =
@@ -190,7 +192,11 @@ module _ {K W : Type 0} (keys : KeyColumns K) (L : KeyColumnLaws keys) (encoding
             record {
               sized = value-length t s k w z h;
               uses = value-rank t s k w z h;
-              same = (L .reads (withKey t s k w z h) (withValue t s k w z h) s (in-key t s k w z h) ∙ L .stored-here t s k (omega arith) g h, value-back t s k w z h);
+              same = (
+                L .reads (withKey t s k w z h) (withValue t s k w z h) s (in-key t s k w z h)
+                    ∙ L .stored-here t s k (omega arith) g h,
+                value-back t s k w z h,
+              );
               other = λ i n. (
                 L .reads (withKey t s k w z h) (withValue t s k w z h) i (in-key t s k w z h) ∙ L .stored-other t s k h i n,
                 other-value t s k w z h i n,
@@ -211,7 +217,8 @@ rank-none n h i l = tabulate-at _ n i 0 (omega arith) ∙ cond-yes _ _ (lt-ltb i
 module _ {K W : Type 0} (keys : KeyColumns K) (L : KeyColumnLaws keys) (encoding : Encoding W) (E : EncodingLaws encoding) (dec : Discrete K) where
   pub represents-no-entries : Represents (table keys L encoding E) (noEntries (keys .values + encoding .count * 16)) []
   represents-no-entries =
-      let n = keys .values + encoding .count * 16 in represents-none (table keys L encoding E) (noEntries n) (length-none n) (rank-none n (omega (arith, L .behind)))
+      let n = keys .values + encoding .count * 16 in represents-none (table keys L encoding E) (noEntries n) (length-none n)
+      (rank-none n (omega (arith, L .behind)))
 
   module _ {t : List ℕ} {l : List (K × W)} (r : Represents (table keys L encoding E) t l) where
     -- an entry forgotten goes from the list, and the others keep their order

@@ -17,7 +17,8 @@ use Rattle.records.specs.Search.{first, slotOr}
 use Rattle.tables.proofs.RankOrder.{Slots, positionFrom, lookSlot, withoutSlot, position-from, Order, order-none, order-used, order-length}
 use Rattle.tables.proofs.RankOrder.{in-use-there, there-in-use, new-slot-below, new-slot-before, new-slot-greatest}
 use Rattle.tables.specs.Order.{newSlot, raised, usedRank}
-use Rattle.tables.specs.WrappingAge.{Ticks, nextTick, ageAt, noTicks, ticked, EqualAges, firstEntry, lastEntry, exceeds, oldestOf, slotByAge, AllSlots, WrappingAge}
+use Rattle.tables.specs.WrappingAge.{Ticks, nextTick, ageAt, noTicks, ticked, EqualAges}
+use Rattle.tables.specs.WrappingAge.{firstEntry, lastEntry, exceeds, oldestOf, slotByAge, AllSlots, WrappingAge}
 
 -- ranks and ticks agree: the slots in use are those of the order, each last used at a tick from 1 on, and one of lesser rank later
 pub record Agrees (rank : ℕ → ℕ) (t : Ticks) : Type 0 where
@@ -94,7 +95,11 @@ oldest-is rule age (suc n) = go (oldestOf rule age n) (oldest-is rule age n) (ex
   where
     go : (o : ℕ) → (o ≤ n - 1) × ((j : ℕ) → j < n → age j ≤ age o) → (b : Bool) → exceeds rule (age o) (age n) ≡ b
         → (cond b n o ≤ suc n - 1) × ((j : ℕ) → j < suc n → age j ≤ age (cond b n o))
-    go o h true e = (omega arith, λ j l. by-cases (ℕ-discrete j n) (λ p. rw p (omega arith)) (λ p. omega (arith, h .1 j (omega arith), exceeds-order rule (age o) (age n) true e)))
+    go o h true e = (
+      omega arith,
+      λ j l. by-cases (ℕ-discrete j n) (λ p. rw p (omega arith))
+          (λ p. omega (arith, h .1 j (omega arith), exceeds-order rule (age o) (age n) true e)),
+    )
     go o h false e = (omega arith, λ j l. by-cases (ℕ-discrete j n) (λ p. rw p (exceeds-order rule (age o) (age n) false e)) (λ p. h .1 j (omega arith)))
 
 -- the age of a slot at the next use
@@ -106,7 +111,8 @@ module _ {rank : ℕ → ℕ} {t : Ticks} (a : Agrees rank t) where
   first-free : (s : ℕ) → s < 16 → t .active s ≡ false → ((j : ℕ) → j < s → t .active j ≡ true) → newSlot rank ≡ s
   first-free s h e b =
       let n : ¬ (rank s < 16) = λ l. Option·none-ne-some tt (sym (a .uses s ∙ rw e) ∙ in-use-there (a .ordered) s h (lt-ltb (rank s) 16 l)) in
-      let used : newSlot rank < s → rank (newSlot rank) < 16 = λ q. ltb-true _ 16 (there-in-use (a .ordered) _ (a .uses (newSlot rank) ∙ rw (b (newSlot rank) q)) .1) in
+      let used : newSlot rank < s → rank (newSlot rank) < 16 = λ q. ltb-true _ 16
+      (there-in-use (a .ordered) _ (a .uses (newSlot rank) ∙ rw (b (newSlot rank) q)) .1) in
       by-cases (decLt s (newSlot rank))
       (λ p. absurd (omega (arith, new-slot-before rank s p)))
       (λ p. by-cases (decLt (newSlot rank) s) (λ q. absurd (omega (arith, new-slot-greatest (a .ordered) s h, used q))) (λ q. omega arith))
@@ -120,7 +126,8 @@ module _ {rank : ℕ → ℕ} {t : Ticks} (a : Agrees rank t) where
       let m = oldest-is rule (ageOf t) 16 in
       let l : o < 16 = omega arith in
       by-cases (ℕ-discrete (rank s) (rank o))
-      (λ e. position-same 0 s o (a .order) (omega (arith, order-length (a .ordered))) (a .uses s ∙ rw (on s b)) (omega (arith, a .ordered .ranked s b, a .ordered .ranked o l)))
+      (λ e. position-same 0 s o (a .order) (omega (arith, order-length (a .ordered))) (a .uses s ∙ rw (on s b))
+      (omega (arith, a .ordered .ranked s b, a .ordered .ranked o l)))
       (λ e. absurd (omega (arith, a .later o s (omega (arith, new-slot-greatest (a .ordered) o l)), m .1 s b, a .begun s (on s b), a .past o)))
 
   -- a new key takes one slot by ranks and by ages

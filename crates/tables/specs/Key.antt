@@ -1,8 +1,8 @@
 -- Keys of tables by name (01, "Remembered tables", "MMS and GOOSE frames"): ten words, made of a number and of a name of at most 64 octets. The
--- number is the address of a GOOSE stream (02, ask 8), the kind of a reservation, and 0 for an SV stream.
+-- number is the address of a GOOSE stream (request 8), the kind of a reservation, and 0 for an SV stream.
 use Prim.Native.Nat.{ℕ, zero, suc, _+_, _*_, _%_, _^_}
 use mathlib.Core.List.{List, _∷_}
-use lib.ListN.{length}
+use lib.ListN.{length, replicate}
 use Rattle.records.specs.Name.{tabulate, octetAt}
 
 -- the number of n octets, the first the least
@@ -19,6 +19,10 @@ unfoldable pub summed : ℕ → (ℕ → ℕ) → ℕ → ℕ
 summed number word zero = number
 summed number word (suc n) = (summed number word n + word n) % 2 ^ 64
 
--- the key: the sum, the number with the words of the name added, so that a search compares one word of most slots; the name's length; its words
+-- the key: a sum, the number and the name's eight words modulo 2^64, which a search compares first; the name's length; the eight words
 unfoldable pub keyOf : ℕ → List ℕ → List ℕ
 keyOf number name = summed number (nameWord name) 8 ∷ length name ∷ tabulate (nameWord name) 8
+
+-- a key of two numbers, as an address and the hash of a name
+abbrev pub twoNumberKey : ℕ → ℕ → List ℕ
+twoNumberKey a b = a ∷ b ∷ replicate 8 0

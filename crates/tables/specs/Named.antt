@@ -1,4 +1,4 @@
--- Tables by name (01, "Remembered tables": SV streams by svID, reservations by name and kind; 02, ask 8: GOOSE streams by address and name). Ranks, sums
+-- Tables by name (01, "Remembered tables": SV streams by svID, reservations by name and kind; request 8: GOOSE streams by address and name). Ranks, sums
 -- from word 16 on, lengths from 32 on, names of eight words each from 48 on, values from 176 on. A key is ten words, a sum, a length and the
 -- eight words of a name (Key).
 use Prim.Native.Nat.{ℕ, _+_, _*_}

@@ -1,4 +1,4 @@
--- The order of use of a table's sixteen slots (01, "Remembered tables": a full table gives up its oldest entry; 02, ask 9: the order is stored). A
+-- The order of use of a table's sixteen slots (01, "Remembered tables": a full table gives up its oldest entry; request 9: the order is stored). A
 -- slot's rank is 0 where it was used last, up to 15, and 16 where it is free. A table is a list of words; the first sixteen are the ranks.
 use Prim.Native.Nat.{ℕ, _+_, _-_}
 use mathlib.Core.Bool.{Bool, _&&_, not, cond}
@@ -29,7 +29,7 @@ newSlot rank = slotOr 15 (firstFrom (λ i. leb 15 (rank i)) 0 15)
 abbrev pub raised : ℕ → ℕ → ℕ
 raised old rank = cond (ltb rank old) (rank + 1) rank
 
--- an entry that is forgotten (02, ask 14) lowers the ranks above its own, but for those of free slots
+-- an entry that is forgotten (request 14) lowers the ranks above its own, but for those of free slots
 abbrev pub lowered : ℕ → ℕ → ℕ
 lowered old rank = cond (ltb old rank && ltb rank 16) (rank - 1) rank
 

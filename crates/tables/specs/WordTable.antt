@@ -6,7 +6,7 @@ use Rattle.tables.specs.Order.{rankOf, usedSlot}
 use Rattle.tables.specs.Place.{KeyColumns}
 use Rattle.tables.specs.Table.{Columns}
 
--- how a value is kept: as the words of so many columns, and read back from them. Every value comes back as it was stored
+-- how a value is kept: as the words of so many columns, and read back from them
 pub record Encoding (W : Type 0) : Type 0 where
   pub count : ℕ
   pub words : W → List ℕ

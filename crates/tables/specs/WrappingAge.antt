@@ -1,6 +1,6 @@
 -- 01's wrapping age (01, "Remembered tables": a full table, buckets included, gives up the entry with the greatest wrapping age; of equal ages the
--- bucket table takes the last entry, the others the first), and the claim that the stored order of use gives up the same entry. Nothing else of this
--- crate speaks of ticks.
+-- bucket table takes the last entry, the others the first), and the claim that the stored order of use gives up the same entry. No other
+-- definition speaks of ticks.
 use Prim.Native.Nat.{ℕ, zero, suc, _+_, _-_, _%_, _^_, _≤_, _<_}
 use mathlib.Core.Bool.{Bool, true, false, not, cond}
 use mathlib.Core.List.{List, [], _∷_, foldl}
@@ -87,7 +87,7 @@ ranksAfter uses = foldl usedRank (λ i. 16) uses
 abbrev pub ticksAfter : List ℕ → Ticks
 ticksAfter uses = foldl ticked noTicks uses
 
--- after up to 4,294,967,295 uses (02, ask 9) a new key takes the slot that 01's ages give it
+-- after up to 4,294,967,295 uses (request 9) a new key takes the slot that 01's ages give it
 abbrev pub WrappingAge : Type 0
 WrappingAge =
     (rule : EqualAges) (uses : List ℕ) → AllSlots uses → length uses ≤ 4294967295 → newSlot (ranksAfter uses) ≡ slotByAge rule (ticksAfter uses)

@@ -1,6 +1,6 @@
 // The words of a slot in the columns of single words, sixteen of them, one for each slot.
 ghost use mathlib.Core.Path.{_≡_};
-ghost use Prim.Native.Nat.{_+_, _≤_};
+ghost use Prim.Native.Nat.{_+_, _≤_, min};
 ghost use lib.ListN.{length};
 ghost use Rattle.tables.specs.Column.{wordOf, wordSet};
 
@@ -13,6 +13,15 @@ pub fn word(t: &[u64], column: usize, slot: usize) -> u64
         return 0;
     }
     t[column + slot]
+}
+
+// The same as a number of 16 bits, 65535 where it has more.
+pub fn word16(t: &[u64], column: usize, slot: usize) -> u16
+    requires { ⌜ column + 16 ≤ length (now t) ⌝ }
+    ensures { λ r. ⌜ r ≡ min (wordOf (now (t .entry)) column slot) 65535 ⌝ }
+{
+    let x = word(t, column, slot);
+    if x < 65535 { x as u16 } else { 65535 }
 }
 
 // Sets that word; a slot of 16 or more changes nothing.

@@ -1,4 +1,4 @@
-// The tables of sixteen entries that the monitor keeps its streams, clocks, buckets, publishers and reservations in: one component for all of them.
+// Tables of sixteen entries as words: one component for streams, clocks, buckets and reservations.
 pub mod column;
 pub mod key;
 pub mod named;

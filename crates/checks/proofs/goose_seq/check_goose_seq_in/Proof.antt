@@ -13,7 +13,8 @@ returns c =
     let w = r .before .before .before .before .before in
     let e = w .before .before .before .before in
     let a = e .before .before .before .args in
-    numbers-checked _ _ ((a .st-num, a .sq-num), a .now-us) (e .enter-key .ensures) (w .word .ensures) (r .before .before .before .word2 .ensures) (r .before .word3 .ensures)
+    numbers-checked _ _ ((a .st-num, a .sq-num), a .now-us) (e .enter-key .ensures) (w .word .ensures) (r .before .before .before .word2 .ensures)
+    (r .before .word3 .ensures)
     (r .goose-replay .ensures) (x .before .number-or .ensures) (y .before .number-or2 .ensures) (z .before .number-or3 .ensures) (x .set-word .ensures)
     (y .set-word2 .ensures) (z .set-word3 .ensures)
 

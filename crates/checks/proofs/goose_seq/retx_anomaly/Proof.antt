@@ -8,7 +8,8 @@ returns : tie.Need-returns
 returns c =
     let w = c .before .before .before in
     let s = w .before .before in
-    retx-known _ _ _ _ (s .before .before .find-key .ensures) (s .slot .given .1) (w .word .ensures) (c .before .before .word2 .ensures) (c .before .word3 .ensures) (c .outside-tolerance .ensures)
+    retx-known _ _ _ _ (s .before .before .find-key .ensures) (s .slot .given .1) (w .word .ensures) (c .before .before .word2 .ensures)
+    (c .before .word3 .ensures) (c .outside-tolerance .ensures)
 
 returns-2 : tie.Need-returns-2
 returns-2 c = retx-new _ _ _ _ (c .before .before .find-key .ensures) (c .enum-told .given .1)

@@ -15,7 +15,8 @@ returns : tie.Need-returns
 returns c =
     let z = c .before .before in
     let y = z .before .before .before .before in
-    mms-stored _ _ _ _ _ (y .before .before .before .before .before .set-word .ensures) (y .before .flag-word .ensures) (y .set-word2 .ensures) (z .set-word3 .ensures)
+    mms-stored _ _ _ _ _ (y .before .before .before .before .before .set-word .ensures) (y .before .flag-word .ensures) (y .set-word2 .ensures)
+    (z .set-word3 .ensures)
 
 pub store-mms-rule-spec : {M : Type 1} → statement M
 store-mms-rule-spec =

@@ -10,7 +10,7 @@ returns c = cb-empty _ _ _ (c .if1 .taken)
 returns-2 : tie.Need-returns-2
 returns-2 c =
     let i = c .before .before .before .before .before in
-    cb-used _ _ _ (i .before .before .before .before .if1 .left) (i .before .before .find-key .ensures) (i .i .given .1) (c .before .before .use-at .ensures)
+    cb-used _ _ _ (i .before .before .before .before .if1 .left) (i .before .before .find-key .ensures) (i .i .given .1) (c .before .before .bind-at .ensures)
 
 returns-3 : tie.Need-returns-3
 returns-3 c = cb-none _ _ _ (c .before .before .before .before .if1 .left) (c .before .before .find-key .ensures) (c .enum-told .given .1)

@@ -24,7 +24,8 @@ loop-again : tie.Need-loop-again Inv-loop μ-loop
 loop-again c =
     let l = c .before .before .before .loop in (
       omega arith,
-      ⊎-elim (λ w. freed-owned _ _ (l .i) (l .inv .1) (omega arith) (w .0 .taken) (w .1)) (λ w. freed-other _ _ (l .i) (l .inv .1) (omega arith) (w .0 .left) (w .2)) (c .if1 .came),
+      ⊎-elim (λ w. freed-owned _ _ (l .i) (l .inv .1) (omega arith) (w .0 .taken) (w .1))
+          (λ w. freed-other _ _ (l .i) (l .inv .1) (omega arith) (w .0 .left) (w .2)) (c .if1 .came),
       simp length-set (l .inv .2),
     )
 

@@ -40,7 +40,8 @@ returns-2 c =
     let d = c .before .before in
     let k = d .before .before in
     let h = k .before in
-    reached-hit (h .before .before .loop .inv) (omega arith) refl (and-yes (sym (h .has-key .ensures) ∙ k .if2 .taken) (and-yes (d .if3 .taken) (c .if4 .taken)))
+    reached-hit (h .before .before .loop .inv) (omega arith) refl
+    (and-yes (sym (h .has-key .ensures) ∙ k .if2 .taken) (and-yes (d .if3 .taken) (c .if4 .taken)))
 
 pub owned-slot-spec : {M : Type 1} → statement M
 owned-slot-spec =

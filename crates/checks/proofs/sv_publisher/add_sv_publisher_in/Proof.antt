@@ -1,16 +1,22 @@
 -- `add_sv_publisher_in` meets its contract.
-use Rattle.checks.proofs.RuleLaws.{added-rule, added-error}
+use Rattle.checks.proofs.RuleLaws.{added-length, added-rule, added-error}
 use Rattle.checks.specs.SvPublisher.{svAdded}
+use mathlib.Core.Path.{_∙_}
 use borrow.Author.Needs.{needs}
 use Rattle.checks.proofs.sv_publisher.add_sv_publisher_in.Statement.{statement}
 use Rattle.checks.proofs.sv_publisher.add_sv_publisher_in.Tie as tie
+
+publisher-key-requires : tie.Need-publisher-key-requires
+publisher-key-requires c κs = added-length _ _ (c .before .before .add-answer .ensures) (c .enum-told .given .1)
 
 returns : tie.Need-returns
 unfolding svAdded
 returns c =
     let s = c .before .before in
-    let e = s .before .before .before in
-    added-rule _ _ _ _ (e .before .before .add-answer .ensures) (e .enum-told .given .1) (rw (← s .before .rule-count .ensures) (s .store-sv-publisher .ensures))
+    let k = s .before .before .before .before in
+    let n = s .before .before .rule-count .ensures in
+    added-rule _ _ _ _ (k .before .before .before .add-answer .ensures) (k .before .enum-told .given .1)
+    (s .store-sv-publisher .ensures ∙ rw (n, k .publisher-key .ensures))
 
 returns-2 : tie.Need-returns-2
 unfolding svAdded
@@ -23,6 +29,7 @@ add-sv-publisher-in-spec =
     (λ c. search needs)
     (λ c κs. search needs)
     (λ c. search needs)
+    publisher-key-requires
     (λ c κs. search needs)
     (λ c κs. search needs)
     (λ c. search needs)

@@ -8,7 +8,8 @@ returns : tie.Need-returns
 returns c =
     let s = c .before .before in
     let o = s .before .before .before .before in
-    count-checked _ _ _ (o .before .before .before .before .before .enter-key .ensures) (o .before .word .ensures) (o .sv-outcome .ensures) (s .before .before .is-replay .ensures) (s .before .count-or .ensures)
+    count-checked _ _ _ (o .before .before .before .before .before .enter-key .ensures) (o .before .word .ensures) (o .sv-outcome .ensures)
+    (s .before .before .is-replay .ensures) (s .before .count-or .ensures)
     (s .set-word .ensures)
 
 pub check-sv-seq-in-spec : {M : Type 1} → statement M

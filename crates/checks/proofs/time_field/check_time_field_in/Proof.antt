@@ -19,7 +19,8 @@ returns-2 c =
     let h = e .before .before .before in
     let a = h .before .before .args in
     time-checked _ _ _ (a .seconds, a .fraction) (sym (h .has-clock .ensures) ∙ not-false _ (e .before .before .if1 .left)) (e .enter-number .ensures)
-    (y .before .before .before .before .word .ensures) (y .before .before .word2 .ensures) (y .set-word .ensures) (z .set-word2 .ensures) (c .clock-alerts .ensures)
+    (y .before .before .before .before .word .ensures) (y .before .before .word2 .ensures) (y .set-word .ensures) (z .set-word2 .ensures)
+    (c .clock-alerts .ensures)
 
 pub check-time-field-in-spec : {M : Type 1} → statement M
 check-time-field-in-spec =

@@ -12,7 +12,8 @@ unfolding monitorOf gooseSeqOn
 returns c =
     let k = c .before .before in
     let s = k .before .before .before in
-    lent (withGooseSeq (monitorOf (s .args .m .now))) (λ c. c .table) (λ c. c .replay) (goose-seq-back (s .args .m .now) (k .check-goose-seq-in .last .0) (s .pre) (omega arith)) (k .check-goose-seq-in .ensures)
+    lent (withGooseSeq (monitorOf (s .args .m .now))) (λ c. c .table) (λ c. c .replay)
+    (goose-seq-back (s .args .m .now) (k .check-goose-seq-in .last .0) (s .pre) (omega arith)) (k .check-goose-seq-in .ensures)
 
 pub check-goose-seq-lent-spec : {M : Type 1} → statement M
 check-goose-seq-lent-spec = tie.close (tie.spec (λ c. search needs) (λ c. search needs) (λ c. search needs) (λ c κs. search needs) (λ c. search needs) returns)

@@ -12,7 +12,8 @@ unfolding monitorOf svSeqOn
 returns c =
     let k = c .before .before in
     let s = k .before .before .before in
-    lent (withSvSeq (monitorOf (s .args .m .now))) (λ c. c .table) (λ c. c .outcome) (sv-seq-back (s .args .m .now) (k .check-sv-seq-in .last .0) (s .pre) (omega arith)) (k .check-sv-seq-in .ensures)
+    lent (withSvSeq (monitorOf (s .args .m .now))) (λ c. c .table) (λ c. c .outcome)
+    (sv-seq-back (s .args .m .now) (k .check-sv-seq-in .last .0) (s .pre) (omega arith)) (k .check-sv-seq-in .ensures)
 
 pub check-sv-seq-lent-spec : {M : Type 1} → statement M
 check-sv-seq-lent-spec = tie.close (tie.spec (λ c. search needs) (λ c. search needs) (λ c. search needs) (λ c κs. search needs) (λ c. search needs) returns)

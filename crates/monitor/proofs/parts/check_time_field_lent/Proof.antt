@@ -12,7 +12,8 @@ unfolding monitorOf timeFieldOn
 returns c =
     let k = c .before .before in
     let s = k .before .before .before in
-    lent (withTimeTrackers (monitorOf (s .args .m .now))) (λ c. c .table) (λ c. c .alert) (time-trackers-back (s .args .m .now) (k .check-time-field-in .last .0) (s .pre) (omega arith)) (k .check-time-field-in .ensures)
+    lent (withTimeTrackers (monitorOf (s .args .m .now))) (λ c. c .table) (λ c. c .alert)
+    (time-trackers-back (s .args .m .now) (k .check-time-field-in .last .0) (s .pre) (omega arith)) (k .check-time-field-in .ensures)
 
 pub check-time-field-lent-spec : {M : Type 1} → statement M
 check-time-field-lent-spec = tie.close (tie.spec (λ c. search needs) (λ c. search needs) (λ c. search needs) (λ c κs. search needs) (λ c. search needs) returns)

@@ -13,7 +13,8 @@ unfolding monitorOf releasedOn
 returns c =
     let k = c .before .before in
     let s = k .before .before .before in
-    cb-reservations-back (s .args .m .now) (k .release-cb-in .last .0) (s .pre) (omega arith) ∙ ap (withCbReservations (monitorOf (s .args .m .now))) (k .release-cb-in .ensures)
+    cb-reservations-back (s .args .m .now) (k .release-cb-in .last .0) (s .pre) (omega arith)
+    ∙ ap (withCbReservations (monitorOf (s .args .m .now))) (k .release-cb-in .ensures)
 
 pub release-cb-lent-spec : {M : Type 1} → statement M
 release-cb-lent-spec = tie.close (tie.spec (λ c. search needs) (λ c. search needs) (λ c. search needs) (λ c κs. search needs) (λ c. search needs) returns)

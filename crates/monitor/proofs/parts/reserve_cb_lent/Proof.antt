@@ -12,7 +12,8 @@ unfolding monitorOf reservedOn
 returns c =
     let k = c .before .before in
     let s = k .before .before .before in
-    lent (withCbReservations (monitorOf (s .args .m .now))) (λ c. c .table) (λ c. c .taken) (cb-reservations-back (s .args .m .now) (k .reserve-cb-in .last .0) (s .pre) (omega arith)) (k .reserve-cb-in .ensures)
+    lent (withCbReservations (monitorOf (s .args .m .now))) (λ c. c .table) (λ c. c .taken)
+    (cb-reservations-back (s .args .m .now) (k .reserve-cb-in .last .0) (s .pre) (omega arith)) (k .reserve-cb-in .ensures)
 
 pub reserve-cb-lent-spec : {M : Type 1} → statement M
 reserve-cb-lent-spec = tie.close (tie.spec (λ c. search needs) (λ c. search needs) (λ c. search needs) (λ c κs. search needs) (λ c. search needs) returns)
