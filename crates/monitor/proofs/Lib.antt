@@ -1,2 +1,3 @@
 pub mod Bijection
 pub mod PartLaws
+pub mod SettingLaws

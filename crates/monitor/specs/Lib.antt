@@ -1,2 +1,3 @@
 pub mod Monitor
 pub mod Parts
+pub mod Settings

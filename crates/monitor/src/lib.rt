@@ -1,2 +1,3 @@
 // The monitor as one array of words.
 pub mod parts;
+pub mod settings;

@@ -1,0 +1,59 @@
+-- Settings (01, "Rules"): what the set calls store, and reset keeps. Ten words: strict mode, test blocking, MMS mask, MMS read-only, the schedule's
+-- initial interval, longest interval and tolerance, its enforcement, jump limit and gap limit.
+use Prim.Native.Nat.{ℕ}
+use mathlib.Core.Bool.{Bool, not}
+use mathlib.Core.List.{List, [], _∷_}
+use lib.Dec.{eqb}
+use lib.ListN.{getD, set}
+use Rattle.records.specs.declared.schedule.RetxSchedule.{RetxSchedule}
+use Rattle.checks.specs.Keys.{flagWord}
+use Rattle.monitor.specs.Monitor.{Monitor, withSettings}
+
+-- nothing limited and nothing blocked; a schedule that is not enforced, of 4 ms at first, 1 s at most, 25 percent
+abbrev pub newSettings : Bool → List ℕ
+newSettings strict = flagWord strict ∷ 0 ∷ 0 ∷ 0 ∷ 4000 ∷ 1000000 ∷ 25 ∷ 0 ∷ 0 ∷ 0 ∷ []
+
+-- settings with one of them set
+module _ (s : List ℕ) where
+  abbrev pub withBlockTest : Bool → List ℕ
+  withBlockTest block = set s 1 (flagWord block)
+
+  abbrev pub withServiceMask : ℕ → List ℕ
+  withServiceMask mask = set s 2 mask
+
+  abbrev pub withReadOnly : Bool → List ℕ
+  withReadOnly readOnly = set s 3 (flagWord readOnly)
+
+  abbrev pub withSchedule : RetxSchedule → Bool → List ℕ
+  withSchedule schedule enforce =
+      set (set (set (set s 4 (schedule .«initial_us»)) 5 (schedule .«t_max_us»)) 6 (schedule .«tolerance_pct»)) 7 (flagWord enforce)
+
+  abbrev pub withMaxJump : ℕ → List ℕ
+  withMaxJump seconds = set s 8 seconds
+
+  abbrev pub withMaxGap : ℕ → List ℕ
+  withMaxGap gap = set s 9 gap
+
+-- the set calls
+module _ (m : Monitor) where
+  unfoldable pub setMmsServiceMask : ℕ → Monitor
+  setMmsServiceMask mask = withSettings m (withServiceMask (m .settings) mask)
+
+  unfoldable pub setMmsReadOnly : Bool → Monitor
+  setMmsReadOnly readOnly = withSettings m (withReadOnly (m .settings) readOnly)
+
+  unfoldable pub setBlockTestFrames : Bool → Monitor
+  setBlockTestFrames block = withSettings m (withBlockTest (m .settings) block)
+
+  unfoldable pub setSvMaxSmpCntGap : ℕ → Monitor
+  setSvMaxSmpCntGap gap = withSettings m (withMaxGap (m .settings) gap)
+
+  unfoldable pub setRetxSchedule : RetxSchedule → Bool → Monitor
+  setRetxSchedule schedule enforce = withSettings m (withSchedule (m .settings) schedule enforce)
+
+  unfoldable pub setTimeMaxForwardJump : ℕ → Monitor
+  setTimeMaxForwardJump seconds = withSettings m (withMaxJump (m .settings) seconds)
+
+-- any setting set
+unfoldable pub settingSet : Monitor → ℕ → ℕ → Monitor
+settingSet m place v = withSettings m (set (m .settings) place v)
