@@ -34,6 +34,9 @@ module _ (l t : List ℕ) (a n : ℕ) (h : a + n ≤ length l) (z : length t ≡
           rw (drop-append-le c (take a l) r (omega arith))
           (take-append-le k (drop c (take a l)) r (omega (arith, length-drop c (take a l))))
 
+pub part-length : (l : List ℕ) (a n : ℕ) → a + n ≤ length l → length (take n (drop a l)) ≡ n
+part-length l a n h = length-take-le n (drop a l) (omega (arith, length-drop a l))
+
 -- a part lent and back, in each place
 module _ (l t : List ℕ) (z : length l ≡ 1218) where
   pub settings-back : length t ≡ 10 → monitorOf (putMid 0 10 l t) ≡ withSettings (monitorOf l) t

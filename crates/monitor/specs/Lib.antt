@@ -1,3 +1,4 @@
 pub mod Monitor
 pub mod Parts
+pub mod Reset
 pub mod Settings

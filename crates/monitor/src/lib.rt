@@ -1,3 +1,4 @@
 // The monitor as one array of words.
 pub mod parts;
+pub mod reset;
 pub mod settings;

@@ -2,7 +2,7 @@
 ghost use mathlib.Core.Path.{_≡_};
 ghost use Prim.Native.Nat.{_+_, _≤_, min};
 ghost use lib.ListN.{length};
-ghost use Rattle.tables.specs.Column.{wordOf, wordSet};
+ghost use Rattle.tables.specs.Column.{wordOf, wordSet, zeroWords};
 
 // The word of a slot in the column that begins there; a slot of 16 or more has 0.
 pub fn word(t: &[u64], column: usize, slot: usize) -> u64
@@ -33,4 +33,15 @@ pub fn set_word(t: &mut [u64], column: usize, slot: usize, v: u64)
         return;
     }
     t[column + slot] = v;
+}
+
+// Sets every word to 0.
+pub fn zero_words(t: &mut [u64])
+    ensures { λ _. ⌜ now (t .exit) ≡ zeroWords (length (now (t .entry))) ⌝ }
+{
+    let mut i: usize = 0;
+    while i < t.len() {
+        t[i] = 0;
+        i += 1;
+    }
 }
