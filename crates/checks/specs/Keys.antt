@@ -1,4 +1,4 @@
--- The keys of the tables by name (01, "Remembered tables", "Rules").
+-- The keys of streams, reservations and publishers (01, "Remembered tables", "Rules"), and a flag as a word.
 use Prim.Native.Nat.{ℕ}
 use mathlib.Core.Bool.{Bool, cond}
 use mathlib.Core.List.{List}
@@ -8,7 +8,7 @@ use Rattle.tables.specs.Key.{keyOf, twoNumberKey}
 abbrev pub flagWord : Bool → ℕ
 flagWord flag = cond flag 1 0
 
--- a name alone: SV streams by svID, publishers by theirs
+-- a name alone: SV streams and SV publishers by svID, GOOSE publishers by control block
 abbrev pub plainKey : List ℕ → List ℕ
 plainKey name = keyOf 0 name
 

@@ -2,10 +2,8 @@
 use Prim.Native.Nat.{ℕ, min}
 use mathlib.Core.Bool.{cond}
 use mathlib.Core.List.{List}
-use mathlib.Core.Option.{Option, none, some}
 use lib.Dec.{ltb, leb}
 use Rattle.records.specs.declared.error.VsError.the-variants.{ResourceExhausted, InvalidInput}
-use Rattle.records.specs.Error.{errorNumber}
 use Rattle.checks.specs.declared.rules.Added.{Added}
 use Rattle.checks.specs.declared.rules.Added.the-variants.{Rule, Error}
 

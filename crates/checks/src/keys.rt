@@ -1,4 +1,4 @@
-// The keys of the tables by name.
+// The keys of streams, reservations and publishers, and a flag as a word.
 ghost use mathlib.Core.Path.{_≡_};
 ghost use Prim.Native.Nat.{_≤_};
 ghost use lib.ListN.{length};

@@ -1,5 +1,5 @@
 -- The words of a monitor are its parts, and the parts its words.
-use Prim.Native.Nat.{ℕ, _+_, _≤_}
+use Prim.Native.Nat.{ℕ, _+_}
 use mathlib.Core.List.{List, _++_}
 use mathlib.Core.Path.{_≡_, sym, ap, _∙_}
 use native.Mathlib.Omega.{arith}
@@ -23,8 +23,7 @@ words-monitor l z =
       part-on l 241 193,
       part-on l 64 177,
       part-on l 15 49,
-      part-on
-          l 10 5,
+      part-on l 10 5,
       part-on l 0 10,
     )
 

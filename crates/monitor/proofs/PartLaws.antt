@@ -8,7 +8,7 @@ use lib.ListN.{length, take, drop, take-append-drop, length-drop}
 use lib.Seq.{take-append-le, drop-append-le, take-at, drop-at, drop-drop, length-take-le}
 use Rattle.monitor.specs.Monitor.{Monitor, monitorOf, withSettings, withTotals, withMmsRules, withGoosePublishers}
 use Rattle.monitor.specs.Monitor.{withSvPublishers, withRateBuckets, withGooseSeq, withSvSeq, withTimeTrackers, withCbReservations}
-use Rattle.monitor.specs.Parts.{After, after}
+use Rattle.monitor.specs.Parts.{after}
 
 -- the n words from a on are replaced by t
 module _ (l t : List ℕ) (a n : ℕ) (h : a + n ≤ length l) (z : length t ≡ n) where
@@ -44,7 +44,6 @@ module _ (l t : List ℕ) (z : length l ≡ 1218) where
   settings-back y =
       let here = mid-here l t 0 10 (omega arith) y in
       let behind = mid-behind l t 0 10 (omega arith) y in
-      let before = mid-before l t 0 10 (omega arith) y in
       λ i. record {
         settings = here i;
         totals = behind 10 5 (omega arith) i;
@@ -214,7 +213,6 @@ module _ (l t : List ℕ) (z : length l ≡ 1218) where
   unfolding monitorOf
   cb-reservations-back y =
       let here = mid-here l t 994 224 (omega arith) y in
-      let behind = mid-behind l t 994 224 (omega arith) y in
       let before = mid-before l t 994 224 (omega arith) y in
       λ i. record {
         settings = before 0 10 (omega arith) i;

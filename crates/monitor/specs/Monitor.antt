@@ -4,7 +4,8 @@ use mathlib.Core.List.{List, _++_}
 use mathlib.Core.Path.{_≡_}
 use lib.ListN.{length, take, drop}
 
--- settings, totals, the three rule lists, the four tables that age, and the reservations (crate checks)
+-- settings; totals (01, "Alert and result"): MMS, GOOSE and SV frames inspected, the next alert's number, alerts; and, of crate checks, the rule lists,
+-- the four tables that age and the reservations
 pub record Monitor : Type 0 where
   pub settings : List ℕ
   pub totals : List ℕ

@@ -1,17 +1,18 @@
 -- Settings (01, "Rules"): what the set calls store, and reset keeps. Ten words: strict mode, test blocking, MMS mask, MMS read-only, the schedule's
 -- initial interval, longest interval and tolerance, its enforcement, jump limit and gap limit.
 use Prim.Native.Nat.{ℕ}
-use mathlib.Core.Bool.{Bool, not}
+use mathlib.Core.Bool.{Bool}
 use mathlib.Core.List.{List, [], _∷_}
-use lib.Dec.{eqb}
-use lib.ListN.{getD, set}
+use lib.ListN.{set}
 use Rattle.records.specs.declared.schedule.RetxSchedule.{RetxSchedule}
+use Rattle.records.specs.Schedule.{defaultSchedule}
 use Rattle.checks.specs.Keys.{flagWord}
 use Rattle.monitor.specs.Monitor.{Monitor, withSettings}
 
--- nothing limited and nothing blocked; a schedule that is not enforced, of 4 ms at first, 1 s at most, 25 percent
+-- nothing limited and nothing blocked; a schedule that is not enforced
 abbrev pub newSettings : Bool → List ℕ
-newSettings strict = flagWord strict ∷ 0 ∷ 0 ∷ 0 ∷ 4000 ∷ 1000000 ∷ 25 ∷ 0 ∷ 0 ∷ 0 ∷ []
+newSettings strict =
+    flagWord strict ∷ 0 ∷ 0 ∷ 0 ∷ defaultSchedule .«initial_us» ∷ defaultSchedule .«t_max_us» ∷ defaultSchedule .«tolerance_pct» ∷ 0 ∷ 0 ∷ 0 ∷ []
 
 -- settings with one of them set
 module _ (s : List ℕ) where

@@ -1,4 +1,5 @@
-// The parts of the monitor in one array of 1218 words: of each check and add call one function lends its part, and one takes the array.
+// The parts of the monitor in one array of 1218 words: of each check and add call `_lent` lends its part from a slice, over whose
+// words the laws are, and `_on` takes the array.
 ghost use mathlib.Core.Path.{_≡_};
 ghost use lib.ListN.{length};
 ghost use Rattle.monitor.specs.Monitor.{monitorOf};

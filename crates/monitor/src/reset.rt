@@ -3,7 +3,8 @@ ghost use mathlib.Core.Path.{_≡_};
 ghost use lib.ListN.{length};
 ghost use Rattle.tables.specs.Column.{zeroWords};
 ghost use Rattle.tables.specs.Order.{noEntries};
-ghost use Rattle.monitor.specs.Monitor.{monitorOf, withTotals, withMmsRules, withGoosePublishers, withSvPublishers, withRateBuckets, withGooseSeq, withSvSeq, withTimeTrackers, withCbReservations};
+ghost use Rattle.monitor.specs.Monitor.{monitorOf, withTotals, withMmsRules, withGoosePublishers, withSvPublishers, withRateBuckets};
+ghost use Rattle.monitor.specs.Monitor.{withGooseSeq, withSvSeq, withTimeTrackers, withCbReservations};
 ghost use Rattle.monitor.specs.Reset.{newTotals, resetMonitor};
 use tables::column::zero_words;
 use tables::order::clear;
@@ -138,7 +139,7 @@ fn new_cb_reservations(m: &mut [u64; 1218])
 }
 
 // As new but for the settings: rules, tables, reservations and totals are gone.
-pub fn reset_in(m: &mut [u64; 1218])
+pub fn reset_on(m: &mut [u64; 1218])
     ensures { λ _. ⌜ monitorOf (now (m .exit)) ≡ resetMonitor (monitorOf (now (m .entry))) ⌝ }
 {
     new_totals(m);

@@ -1,6 +1,6 @@
 -- 01's wrapping age (01, "Remembered tables": a full table, buckets included, gives up the entry with the greatest wrapping age; of equal ages the
 -- bucket table takes the last entry, the others the first), and the claim that the stored order of use gives up the same entry. No other
--- definition speaks of ticks.
+-- definition of this crate speaks of ticks.
 use Prim.Native.Nat.{ℕ, zero, suc, _+_, _-_, _%_, _^_, _≤_, _<_}
 use mathlib.Core.Bool.{Bool, true, false, not, cond}
 use mathlib.Core.List.{List, [], _∷_, foldl}

@@ -18,4 +18,5 @@ returns c =
     ∙ ap (withCbReservations (monitorOf l)) (k .clear .ensures ∙ ap noEntries (part-length l 994 224 (omega (arith, s .pre))))
 
 pub new-cb-reservations-lent-spec : {M : Type 1} → statement M
-new-cb-reservations-lent-spec = tie.close (tie.spec (λ c. search needs) (λ c. search needs) (λ c. search needs) (λ c κs. search needs) (λ c. search needs) returns)
+new-cb-reservations-lent-spec = tie.close (tie.spec (λ c. search needs) (λ c. search needs) (λ c. search needs) (λ c κs. search needs)
+    (λ c. search needs) returns)

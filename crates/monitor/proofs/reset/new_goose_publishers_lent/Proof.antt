@@ -18,4 +18,5 @@ returns c =
     ∙ ap (withGoosePublishers (monitorOf l)) (k .zero-words .ensures ∙ ap zeroWords (part-length l 64 177 (omega (arith, s .pre))))
 
 pub new-goose-publishers-lent-spec : {M : Type 1} → statement M
-new-goose-publishers-lent-spec = tie.close (tie.spec (λ c. search needs) (λ c. search needs) (λ c. search needs) (λ c κs. search needs) (λ c. search needs) returns)
+new-goose-publishers-lent-spec = tie.close (tie.spec (λ c. search needs) (λ c. search needs) (λ c. search needs) (λ c κs. search needs)
+    (λ c. search needs) returns)

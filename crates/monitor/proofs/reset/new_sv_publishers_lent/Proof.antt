@@ -18,4 +18,5 @@ returns c =
     ∙ ap (withSvPublishers (monitorOf l)) (k .zero-words .ensures ∙ ap zeroWords (part-length l 241 193 (omega (arith, s .pre))))
 
 pub new-sv-publishers-lent-spec : {M : Type 1} → statement M
-new-sv-publishers-lent-spec = tie.close (tie.spec (λ c. search needs) (λ c. search needs) (λ c. search needs) (λ c κs. search needs) (λ c. search needs) returns)
+new-sv-publishers-lent-spec = tie.close (tie.spec (λ c. search needs) (λ c. search needs) (λ c. search needs) (λ c κs. search needs)
+    (λ c. search needs) returns)

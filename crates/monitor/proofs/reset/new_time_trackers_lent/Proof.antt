@@ -18,4 +18,5 @@ returns c =
     ∙ ap (withTimeTrackers (monitorOf l)) (k .clear .ensures ∙ ap noEntries (part-length l 930 64 (omega (arith, s .pre))))
 
 pub new-time-trackers-lent-spec : {M : Type 1} → statement M
-new-time-trackers-lent-spec = tie.close (tie.spec (λ c. search needs) (λ c. search needs) (λ c. search needs) (λ c κs. search needs) (λ c. search needs) returns)
+new-time-trackers-lent-spec = tie.close (tie.spec (λ c. search needs) (λ c. search needs) (λ c. search needs) (λ c κs. search needs)
+    (λ c. search needs) returns)

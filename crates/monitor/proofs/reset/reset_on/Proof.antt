@@ -1,4 +1,4 @@
--- `reset_in` meets its contract: part by part the monitor becomes as new.
+-- `reset_on` meets its contract: part by part the monitor becomes as new.
 use mathlib.Core.Path.{ap, _∙_}
 use borrow.Author.Needs.{needs}
 use Rattle.tables.specs.Column.{zeroWords}
@@ -6,8 +6,8 @@ use Rattle.tables.specs.Order.{noEntries}
 use Rattle.monitor.specs.Monitor.{Monitor, withMmsRules, withGoosePublishers, withSvPublishers, withRateBuckets}
 use Rattle.monitor.specs.Monitor.{withGooseSeq, withSvSeq, withTimeTrackers, withCbReservations}
 use Rattle.monitor.specs.Reset.{resetMonitor}
-use Rattle.monitor.proofs.reset.reset_in.Statement.{statement}
-use Rattle.monitor.proofs.reset.reset_in.Tie as tie
+use Rattle.monitor.proofs.reset.reset_on.Statement.{statement}
+use Rattle.monitor.proofs.reset.reset_on.Tie as tie
 
 returns : tie.Need-returns
 unfolding resetMonitor
@@ -30,8 +30,8 @@ returns c =
     let e8 = p8 .new-time-trackers .ensures ∙ ap (λ (m : Monitor). withTimeTrackers m (noEntries 64)) e7 in
     c .new-cb-reservations .ensures ∙ ap (λ (m : Monitor). withCbReservations m (noEntries 224)) e8
 
-pub reset-in-spec : {M : Type 1} → statement M
-reset-in-spec =
+pub reset-on-spec : {M : Type 1} → statement M
+reset-on-spec =
     tie.close
     (tie.spec
     (λ c κs. search needs)

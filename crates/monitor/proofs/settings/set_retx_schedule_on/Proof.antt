@@ -1,11 +1,11 @@
--- `set_retx_schedule_in` meets its contract.
+-- `set_retx_schedule_on` meets its contract.
 use borrow.Author.Needs.{needs}
 use Rattle.checks.specs.Keys.{flagWord}
 use Rattle.monitor.specs.Monitor.{monitorOf}
 use Rattle.monitor.specs.Settings.{settingSet, setRetxSchedule}
 use Rattle.monitor.proofs.SettingLaws.{set-again}
-use Rattle.monitor.proofs.settings.set_retx_schedule_in.Statement.{statement}
-use Rattle.monitor.proofs.settings.set_retx_schedule_in.Tie as tie
+use Rattle.monitor.proofs.settings.set_retx_schedule_on.Statement.{statement}
+use Rattle.monitor.proofs.settings.set_retx_schedule_on.Tie as tie
 
 returns : tie.Need-returns
 unfolding settingSet setRetxSchedule
@@ -20,8 +20,8 @@ returns c =
     let third = set-again m 6 (a .schedule .«tolerance_pct») second (t .set-setting3 .ensures) in
     set-again m 7 (flagWord (a .enforce)) third (rw (← c .before .flag-word .ensures) (c .set-setting4 .ensures))
 
-pub set-retx-schedule-in-spec : {M : Type 1} → statement M
-set-retx-schedule-in-spec =
+pub set-retx-schedule-on-spec : {M : Type 1} → statement M
+set-retx-schedule-on-spec =
     tie.close
     (tie.spec
     (λ c. search needs)
