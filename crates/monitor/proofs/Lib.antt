@@ -1,3 +1,4 @@
 pub mod Bijection
 pub mod PartLaws
+pub mod ResetLaws
 pub mod SettingLaws

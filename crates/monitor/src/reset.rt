@@ -1,10 +1,11 @@
 // Reset, carried over from industrial/iec61850-monitor/src/lib.rs of craton-shield a31d888527 (Apache-2.0) and changed: each part made as new in place.
 ghost use mathlib.Core.Path.{_≡_};
+ghost use Prim.Native.Nat.{_≤_, _-_};
+ghost use borrow.Rule.Slice.PartMut.{putMid};
 ghost use lib.ListN.{length};
 ghost use Rattle.tables.specs.Column.{zeroWords};
 ghost use Rattle.tables.specs.Order.{noEntries};
-ghost use Rattle.monitor.specs.Monitor.{monitorOf, withTotals, withMmsRules, withGoosePublishers, withSvPublishers, withRateBuckets};
-ghost use Rattle.monitor.specs.Monitor.{withGooseSeq, withSvSeq, withTimeTrackers, withCbReservations};
+ghost use Rattle.monitor.specs.Monitor.{monitorOf, withTotals};
 ghost use Rattle.monitor.specs.Reset.{newTotals, resetMonitor};
 use tables::column::zero_words;
 use tables::order::clear;
@@ -34,108 +35,37 @@ fn new_totals(m: &mut [u64; 1218])
     new_totals_lent(m);
 }
 
-fn new_mms_rules_lent(m: &mut [u64])
-    requires { ⌜ length (now m) ≡ 1218 ⌝ }
-    ensures { λ _. ⌜ monitorOf (now (m .exit)) ≡ withMmsRules (monitorOf (now (m .entry))) (zeroWords 49) ⌝ }
+// Sets the words of a part to 0.
+fn zero_part_lent(m: &mut [u64], start: usize, end: usize)
+    requires { ⌜ (start ≤ end) × (end ≤ length (now m)) ⌝ }
+    ensures { λ _. ⌜ now (m .exit) ≡ putMid start (end - start) (now (m .entry)) (zeroWords (end - start)) ⌝ }
 {
-    zero_words(&mut m[15..64]);
+    zero_words(&mut m[start..end]);
 }
 
-fn new_mms_rules(m: &mut [u64; 1218])
-    ensures { λ _. ⌜ monitorOf (now (m .exit)) ≡ withMmsRules (monitorOf (now (m .entry))) (zeroWords 49) ⌝ }
+// The contract says the length too, which a reference to an array does not tell a caller's proof.
+fn zero_part(m: &mut [u64; 1218], start: usize, end: usize)
+    requires { ⌜ (start ≤ end) × (end ≤ 1218) ⌝ }
+    ensures { λ _. ⌜ (length (now (m .entry)) ≡ 1218)
+        × (now (m .exit) ≡ putMid start (end - start) (now (m .entry)) (zeroWords (end - start))) ⌝ }
 {
-    new_mms_rules_lent(m);
+    zero_part_lent(m, start, end);
 }
 
-fn new_goose_publishers_lent(m: &mut [u64])
-    requires { ⌜ length (now m) ≡ 1218 ⌝ }
-    ensures { λ _. ⌜ monitorOf (now (m .exit)) ≡ withGoosePublishers (monitorOf (now (m .entry))) (zeroWords 177) ⌝ }
+// Makes a part a table without entries.
+fn clear_part_lent(m: &mut [u64], start: usize, end: usize)
+    requires { ⌜ (start ≤ end) × (end ≤ length (now m)) ⌝ }
+    ensures { λ _. ⌜ now (m .exit) ≡ putMid start (end - start) (now (m .entry)) (noEntries (end - start)) ⌝ }
 {
-    zero_words(&mut m[64..241]);
+    clear(&mut m[start..end]);
 }
 
-fn new_goose_publishers(m: &mut [u64; 1218])
-    ensures { λ _. ⌜ monitorOf (now (m .exit)) ≡ withGoosePublishers (monitorOf (now (m .entry))) (zeroWords 177) ⌝ }
+fn clear_part(m: &mut [u64; 1218], start: usize, end: usize)
+    requires { ⌜ (start ≤ end) × (end ≤ 1218) ⌝ }
+    ensures { λ _. ⌜ (length (now (m .entry)) ≡ 1218)
+        × (now (m .exit) ≡ putMid start (end - start) (now (m .entry)) (noEntries (end - start))) ⌝ }
 {
-    new_goose_publishers_lent(m);
-}
-
-fn new_sv_publishers_lent(m: &mut [u64])
-    requires { ⌜ length (now m) ≡ 1218 ⌝ }
-    ensures { λ _. ⌜ monitorOf (now (m .exit)) ≡ withSvPublishers (monitorOf (now (m .entry))) (zeroWords 193) ⌝ }
-{
-    zero_words(&mut m[241..434]);
-}
-
-fn new_sv_publishers(m: &mut [u64; 1218])
-    ensures { λ _. ⌜ monitorOf (now (m .exit)) ≡ withSvPublishers (monitorOf (now (m .entry))) (zeroWords 193) ⌝ }
-{
-    new_sv_publishers_lent(m);
-}
-
-fn new_rate_buckets_lent(m: &mut [u64])
-    requires { ⌜ length (now m) ≡ 1218 ⌝ }
-    ensures { λ _. ⌜ monitorOf (now (m .exit)) ≡ withRateBuckets (monitorOf (now (m .entry))) (noEntries 80) ⌝ }
-{
-    clear(&mut m[434..514]);
-}
-
-fn new_rate_buckets(m: &mut [u64; 1218])
-    ensures { λ _. ⌜ monitorOf (now (m .exit)) ≡ withRateBuckets (monitorOf (now (m .entry))) (noEntries 80) ⌝ }
-{
-    new_rate_buckets_lent(m);
-}
-
-fn new_goose_seq_lent(m: &mut [u64])
-    requires { ⌜ length (now m) ≡ 1218 ⌝ }
-    ensures { λ _. ⌜ monitorOf (now (m .exit)) ≡ withGooseSeq (monitorOf (now (m .entry))) (noEntries 224) ⌝ }
-{
-    clear(&mut m[514..738]);
-}
-
-fn new_goose_seq(m: &mut [u64; 1218])
-    ensures { λ _. ⌜ monitorOf (now (m .exit)) ≡ withGooseSeq (monitorOf (now (m .entry))) (noEntries 224) ⌝ }
-{
-    new_goose_seq_lent(m);
-}
-
-fn new_sv_seq_lent(m: &mut [u64])
-    requires { ⌜ length (now m) ≡ 1218 ⌝ }
-    ensures { λ _. ⌜ monitorOf (now (m .exit)) ≡ withSvSeq (monitorOf (now (m .entry))) (noEntries 192) ⌝ }
-{
-    clear(&mut m[738..930]);
-}
-
-fn new_sv_seq(m: &mut [u64; 1218])
-    ensures { λ _. ⌜ monitorOf (now (m .exit)) ≡ withSvSeq (monitorOf (now (m .entry))) (noEntries 192) ⌝ }
-{
-    new_sv_seq_lent(m);
-}
-
-fn new_time_trackers_lent(m: &mut [u64])
-    requires { ⌜ length (now m) ≡ 1218 ⌝ }
-    ensures { λ _. ⌜ monitorOf (now (m .exit)) ≡ withTimeTrackers (monitorOf (now (m .entry))) (noEntries 64) ⌝ }
-{
-    clear(&mut m[930..994]);
-}
-
-fn new_time_trackers(m: &mut [u64; 1218])
-    ensures { λ _. ⌜ monitorOf (now (m .exit)) ≡ withTimeTrackers (monitorOf (now (m .entry))) (noEntries 64) ⌝ }
-{
-    new_time_trackers_lent(m);
-}
-
-fn new_cb_reservations_lent(m: &mut [u64])
-    requires { ⌜ length (now m) ≡ 1218 ⌝ }
-    ensures { λ _. ⌜ monitorOf (now (m .exit)) ≡ withCbReservations (monitorOf (now (m .entry))) (noEntries 224) ⌝ }
-{
-    clear(&mut m[994..1218]);
-}
-
-fn new_cb_reservations(m: &mut [u64; 1218])
-    ensures { λ _. ⌜ monitorOf (now (m .exit)) ≡ withCbReservations (monitorOf (now (m .entry))) (noEntries 224) ⌝ }
-{
-    new_cb_reservations_lent(m);
+    clear_part_lent(m, start, end);
 }
 
 // As new but for the settings: rules, tables, reservations and totals are gone.
@@ -143,12 +73,12 @@ pub fn reset_on(m: &mut [u64; 1218])
     ensures { λ _. ⌜ monitorOf (now (m .exit)) ≡ resetMonitor (monitorOf (now (m .entry))) ⌝ }
 {
     new_totals(m);
-    new_mms_rules(m);
-    new_goose_publishers(m);
-    new_sv_publishers(m);
-    new_rate_buckets(m);
-    new_goose_seq(m);
-    new_sv_seq(m);
-    new_time_trackers(m);
-    new_cb_reservations(m);
+    zero_part(m, 15, 64);
+    zero_part(m, 64, 241);
+    zero_part(m, 241, 434);
+    clear_part(m, 434, 514);
+    clear_part(m, 514, 738);
+    clear_part(m, 738, 930);
+    clear_part(m, 930, 994);
+    clear_part(m, 994, 1218);
 }

@@ -1,0 +1,43 @@
+-- Laws of reset: a part that is made as new.
+use Prim.Native.Nat.{ℕ}
+use mathlib.Core.List.{List}
+use mathlib.Core.Path.{_≡_, ap, _∙_}
+use borrow.Rule.Slice.PartMut.{putMid}
+use lib.ListN.{length}
+use Rattle.records.proofs.NameLaws.{length-tabulate}
+use Rattle.tables.specs.Column.{zeroWords}
+use Rattle.tables.specs.Order.{noEntries}
+use Rattle.tables.proofs.WordTables.{length-none}
+use Rattle.monitor.specs.Monitor.{monitorOf, withMmsRules, withGoosePublishers, withSvPublishers, withRateBuckets}
+use Rattle.monitor.specs.Monitor.{withGooseSeq, withSvSeq, withTimeTrackers, withCbReservations}
+use Rattle.monitor.proofs.PartLaws.{mms-rules-back, goose-publishers-back, sv-publishers-back, rate-buckets-back}
+use Rattle.monitor.proofs.PartLaws.{goose-seq-back, sv-seq-back, time-trackers-back, cb-reservations-back}
+
+length-zero : (n : ℕ) → length (zeroWords n) ≡ n
+unfolding zeroWords
+length-zero n = length-tabulate _ n
+
+module _ (l : List ℕ) {l′ : List ℕ} where
+  pub mms-rules-new : (length l ≡ 1218) × (l′ ≡ putMid 15 49 l (zeroWords 49)) → monitorOf l′ ≡ withMmsRules (monitorOf l) (zeroWords 49)
+  mms-rules-new e = ap monitorOf (e .1) ∙ mms-rules-back l (zeroWords 49) (e .0) (length-zero 49)
+
+  pub goose-publishers-new : (length l ≡ 1218) × (l′ ≡ putMid 64 177 l (zeroWords 177)) → monitorOf l′ ≡ withGoosePublishers (monitorOf l) (zeroWords 177)
+  goose-publishers-new e = ap monitorOf (e .1) ∙ goose-publishers-back l (zeroWords 177) (e .0) (length-zero 177)
+
+  pub sv-publishers-new : (length l ≡ 1218) × (l′ ≡ putMid 241 193 l (zeroWords 193)) → monitorOf l′ ≡ withSvPublishers (monitorOf l) (zeroWords 193)
+  sv-publishers-new e = ap monitorOf (e .1) ∙ sv-publishers-back l (zeroWords 193) (e .0) (length-zero 193)
+
+  pub rate-buckets-new : (length l ≡ 1218) × (l′ ≡ putMid 434 80 l (noEntries 80)) → monitorOf l′ ≡ withRateBuckets (monitorOf l) (noEntries 80)
+  rate-buckets-new e = ap monitorOf (e .1) ∙ rate-buckets-back l (noEntries 80) (e .0) (length-none 80)
+
+  pub goose-seq-new : (length l ≡ 1218) × (l′ ≡ putMid 514 224 l (noEntries 224)) → monitorOf l′ ≡ withGooseSeq (monitorOf l) (noEntries 224)
+  goose-seq-new e = ap monitorOf (e .1) ∙ goose-seq-back l (noEntries 224) (e .0) (length-none 224)
+
+  pub sv-seq-new : (length l ≡ 1218) × (l′ ≡ putMid 738 192 l (noEntries 192)) → monitorOf l′ ≡ withSvSeq (monitorOf l) (noEntries 192)
+  sv-seq-new e = ap monitorOf (e .1) ∙ sv-seq-back l (noEntries 192) (e .0) (length-none 192)
+
+  pub time-trackers-new : (length l ≡ 1218) × (l′ ≡ putMid 930 64 l (noEntries 64)) → monitorOf l′ ≡ withTimeTrackers (monitorOf l) (noEntries 64)
+  time-trackers-new e = ap monitorOf (e .1) ∙ time-trackers-back l (noEntries 64) (e .0) (length-none 64)
+
+  pub cb-reservations-new : (length l ≡ 1218) × (l′ ≡ putMid 994 224 l (noEntries 224)) → monitorOf l′ ≡ withCbReservations (monitorOf l) (noEntries 224)
+  cb-reservations-new e = ap monitorOf (e .1) ∙ cb-reservations-back l (noEntries 224) (e .0) (length-none 224)
