@@ -2,3 +2,4 @@ pub mod Bijection
 pub mod PartLaws
 pub mod ResetLaws
 pub mod SettingLaws
+pub mod TotalLaws

@@ -1,11 +1,11 @@
 -- Laws of the parts of the words: a part that is lent and comes back changed is an update of its field.
-use Prim.Native.Nat.{ℕ, _+_, _-_, _≤_}
+use Prim.Native.Nat.{ℕ, _+_, _-_, _≤_, _<_}
 use mathlib.Core.List.{List, _++_}
 use mathlib.Core.Path.{_≡_, sym, ap, _∙_}
 use native.Mathlib.Omega.{arith}
 use borrow.Rule.Slice.PartMut.{putMid}
-use lib.ListN.{length, take, drop, take-append-drop, length-drop}
-use lib.Seq.{take-append-le, drop-append-le, take-at, drop-at, drop-drop, length-take-le}
+use lib.ListN.{length, take, drop, getD, take-append-drop, length-drop}
+use lib.Seq.{take-append-le, drop-append-le, take-at, drop-at, drop-drop, getD-take, getD-drop, length-take-le}
 use Rattle.monitor.specs.Monitor.{Monitor, monitorOf, withSettings, withTotals, withMmsRules, withGoosePublishers}
 use Rattle.monitor.specs.Monitor.{withSvPublishers, withRateBuckets, withGooseSeq, withSvSeq, withTimeTrackers, withCbReservations}
 use Rattle.monitor.specs.Parts.{after}
@@ -36,6 +36,10 @@ module _ (l t : List ℕ) (a n : ℕ) (h : a + n ≤ length l) (z : length t ≡
 
 pub part-length : (l : List ℕ) (a n : ℕ) → a + n ≤ length l → length (take n (drop a l)) ≡ n
 part-length l a n h = length-take-le n (drop a l) (omega (arith, length-drop a l))
+
+-- a word of a part is a word of the whole
+pub part-word : (l : List ℕ) (a n i : ℕ) → i < n → getD (take n (drop a l)) i 0 ≡ getD l (a + i) 0
+part-word l a n i h = getD-take n (drop a l) i 0 h ∙ getD-drop a l i 0
 
 -- a part lent and back, in each place
 module _ (l t : List ℕ) (z : length l ≡ 1218) where

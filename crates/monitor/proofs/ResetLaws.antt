@@ -1,16 +1,23 @@
 -- Laws of reset: a part that is made as new.
 use Prim.Native.Nat.{ℕ}
+use mathlib.Core.Bool.{Bool, false}
 use mathlib.Core.List.{List}
 use mathlib.Core.Path.{_≡_, ap, _∙_}
 use borrow.Rule.Slice.PartMut.{putMid}
 use lib.ListN.{length}
+use Rattle.records.specs.declared.schedule.RetxSchedule.{RetxSchedule}
+use Rattle.records.specs.Name.{tabulate}
+use Rattle.records.specs.Schedule.{defaultSchedule}
 use Rattle.records.proofs.NameLaws.{length-tabulate}
 use Rattle.tables.specs.Column.{zeroWords}
 use Rattle.tables.specs.Order.{noEntries}
 use Rattle.tables.proofs.WordTables.{length-none}
-use Rattle.monitor.specs.Monitor.{monitorOf, withMmsRules, withGoosePublishers, withSvPublishers, withRateBuckets}
+use Rattle.checks.specs.Keys.{flagWord}
+use Rattle.monitor.specs.Monitor.{Monitor, monitorOf, withSettings, withMmsRules, withGoosePublishers, withSvPublishers, withRateBuckets}
 use Rattle.monitor.specs.Monitor.{withGooseSeq, withSvSeq, withTimeTrackers, withCbReservations}
-use Rattle.monitor.proofs.PartLaws.{mms-rules-back, goose-publishers-back, sv-publishers-back, rate-buckets-back}
+use Rattle.monitor.specs.Reset.{newMonitor, resetMonitor}
+use Rattle.monitor.specs.Settings.{settingSet, setRetxSchedule}
+use Rattle.monitor.proofs.PartLaws.{settings-back, mms-rules-back, goose-publishers-back, sv-publishers-back, rate-buckets-back}
 use Rattle.monitor.proofs.PartLaws.{goose-seq-back, sv-seq-back, time-trackers-back, cb-reservations-back}
 
 length-zero : (n : ℕ) → length (zeroWords n) ≡ n
@@ -18,6 +25,9 @@ unfolding zeroWords
 length-zero n = length-tabulate _ n
 
 module _ (l : List ℕ) {l′ : List ℕ} where
+  pub settings-zero : (length l ≡ 1218) × (l′ ≡ putMid 0 10 l (zeroWords 10)) → monitorOf l′ ≡ withSettings (monitorOf l) (zeroWords 10)
+  settings-zero e = ap monitorOf (e .1) ∙ settings-back l (zeroWords 10) (e .0) (length-zero 10)
+
   pub mms-rules-new : (length l ≡ 1218) × (l′ ≡ putMid 15 49 l (zeroWords 49)) → monitorOf l′ ≡ withMmsRules (monitorOf l) (zeroWords 49)
   mms-rules-new e = ap monitorOf (e .1) ∙ mms-rules-back l (zeroWords 49) (e .0) (length-zero 49)
 
@@ -41,3 +51,12 @@ module _ (l : List ℕ) {l′ : List ℕ} where
 
   pub cb-reservations-new : (length l ≡ 1218) × (l′ ≡ putMid 994 224 l (noEntries 224)) → monitorOf l′ ≡ withCbReservations (monitorOf l) (noEntries 224)
   cb-reservations-new e = ap monitorOf (e .1) ∙ cb-reservations-back l (noEntries 224) (e .0) (length-none 224)
+
+-- the settings of a new monitor stored, then all else reset
+pub made-new :
+    (strict : Bool) (m : Monitor) {zero flagged scheduled new : Monitor} {flag : ℕ} {schedule : RetxSchedule}
+    → zero ≡ withSettings m (zeroWords 10) → flag ≡ flagWord strict → flagged ≡ settingSet zero 0 flag
+    → schedule ≡ defaultSchedule → scheduled ≡ setRetxSchedule flagged schedule false → new ≡ resetMonitor scheduled → new ≡ newMonitor strict
+unfolding settingSet setRetxSchedule resetMonitor zeroWords tabulate
+made-new strict m z f g d s n =
+    n ∙ ap resetMonitor (s ∙ λ i. setRetxSchedule ((g ∙ λ j. settingSet (z j) 0 (f j)) i) (d i) false)

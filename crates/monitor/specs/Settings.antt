@@ -1,9 +1,10 @@
 -- Settings (01, "Rules"): what the set calls store, and reset keeps. Ten words: strict mode, test blocking, MMS mask, MMS read-only, the schedule's
 -- initial interval, longest interval and tolerance, its enforcement, jump limit and gap limit.
-use Prim.Native.Nat.{ℕ}
-use mathlib.Core.Bool.{Bool}
+use Prim.Native.Nat.{ℕ, min, _-_, _^_}
+use mathlib.Core.Bool.{Bool, not}
 use mathlib.Core.List.{List, [], _∷_}
-use lib.ListN.{set}
+use lib.Dec.{eqb}
+use lib.ListN.{getD, set}
 use Rattle.records.specs.declared.schedule.RetxSchedule.{RetxSchedule}
 use Rattle.records.specs.Schedule.{defaultSchedule}
 use Rattle.checks.specs.Keys.{flagWord}
@@ -58,3 +59,41 @@ module _ (m : Monitor) where
 -- any setting set
 unfoldable pub settingSet : Monitor → ℕ → ℕ → Monitor
 settingSet m place v = withSettings m (set (m .settings) place v)
+
+-- what the settings say
+module _ (m : Monitor) where
+  abbrev pub setting : ℕ → ℕ
+  setting place = getD (m .settings) place 0
+
+  -- a flag is set where its word is not 0
+  abbrev pub settingFlag : ℕ → Bool
+  settingFlag place = not (eqb (setting place) 0)
+
+  abbrev pub strictMode : Bool
+  strictMode = settingFlag 0
+
+  abbrev pub blockTestFrames : Bool
+  blockTestFrames = settingFlag 1
+
+  abbrev pub mmsServiceMask : ℕ
+  mmsServiceMask = setting 2
+
+  abbrev pub mmsReadOnly : Bool
+  mmsReadOnly = settingFlag 3
+
+  -- a number is the most that its type holds where its word has more
+  abbrev pub retxSchedule : RetxSchedule
+  retxSchedule = record {
+    «initial_us» = min (setting 4) (2 ^ 32 - 1);
+    «t_max_us» = min (setting 5) (2 ^ 32 - 1);
+    «tolerance_pct» = min (setting 6) 255;
+  }
+
+  abbrev pub retxEnforce : Bool
+  retxEnforce = settingFlag 7
+
+  abbrev pub timeMaxForwardJump : ℕ
+  timeMaxForwardJump = min (setting 8) (2 ^ 32 - 1)
+
+  abbrev pub svMaxSmpCntGap : ℕ
+  svMaxSmpCntGap = setting 9

@@ -2,3 +2,4 @@
 pub mod parts;
 pub mod reset;
 pub mod settings;
+pub mod totals;

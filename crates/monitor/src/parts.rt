@@ -1,19 +1,21 @@
 // The parts of the monitor in one array of 1218 words: of each check and add call `_lent` lends its part from a slice, over whose
 // words the laws are, and `_on` takes the array.
 ghost use mathlib.Core.Path.{_≡_};
-ghost use lib.ListN.{length};
+ghost use lib.ListN.{length, getD};
 ghost use Rattle.monitor.specs.Monitor.{monitorOf};
 ghost use Rattle.monitor.specs.Parts.{svSeqOn, gooseSeqOn, timeFieldOn, rateOn, cbOn, reservedOn, releasedOn, mmsAddedOn, gooseAddedOn, svAddedOn};
 ghost use Rattle.checks.specs.GoosePublisher.{goosePublisher};
 ghost use Rattle.checks.specs.GooseSeq.{retxChecked};
-ghost use Rattle.checks.specs.MmsRule.{firstRule};
-ghost use Rattle.checks.specs.SvPublisher.{svPublisher};
+ghost use Rattle.checks.specs.MmsRule.{firstRule, ruleReadOnly, ruleRate};
+ghost use Rattle.checks.specs.SvPublisher.{svPublisher, publisherRate};
 use checks::goose_publisher::add_goose_publisher_in;
 use checks::goose_publisher::goose_publisher;
 use checks::goose_seq::check_goose_seq_in;
 use checks::goose_seq::retx_anomaly;
 use checks::mms_rule::add_mms_rule_in;
 use checks::mms_rule::first_rule;
+use checks::mms_rule::rule_rate;
+use checks::mms_rule::rule_read_only;
 use checks::rate::rate_check_in;
 use checks::reservation::check_cb_in;
 use checks::reservation::release_cb_in;
@@ -21,6 +23,7 @@ use checks::reservation::reserve_cb_in;
 use checks::rules::Added;
 use checks::sv_publisher::PublisherMatch;
 use checks::sv_publisher::add_sv_publisher_in;
+use checks::sv_publisher::publisher_rate;
 use checks::sv_publisher::sv_publisher;
 use checks::sv_seq::SvSeqOutcome;
 use checks::sv_seq::check_sv_seq_in;
@@ -262,4 +265,65 @@ pub fn retx_anomaly_on(
     ensures { λ r. ⌜ r ≡ retxChecked schedule (monitorOf (now (m .entry)) .«goose_seq») (now (key .entry)) ((«st_num», «sq_num»), «now_us») ⌝ }
 {
     retx_anomaly_lent(m, key, schedule, st_num, sq_num, now_us)
+}
+
+// How many MMS rules, GOOSE publishers and SV publishers there are.
+pub fn mms_rule_count_on(m: &[u64; 1218]) -> u64
+    ensures { λ r. ⌜ r ≡ getD (monitorOf (now (m .entry)) .«mms_rules») 48 0 ⌝ }
+{
+    m[63]
+}
+
+pub fn goose_publisher_count_on(m: &[u64; 1218]) -> u64
+    ensures { λ r. ⌜ r ≡ getD (monitorOf (now (m .entry)) .«goose_publishers») 176 0 ⌝ }
+{
+    m[240]
+}
+
+pub fn sv_publisher_count_on(m: &[u64; 1218]) -> u64
+    ensures { λ r. ⌜ r ≡ getD (monitorOf (now (m .entry)) .«sv_publishers») 192 0 ⌝ }
+{
+    m[433]
+}
+
+// Whether an MMS rule is read-only.
+fn rule_read_only_lent(m: &[u64], place: usize) -> bool
+    requires { ⌜ length (now m) ≡ 1218 ⌝ }
+    ensures { λ r. ⌜ r ≡ ruleReadOnly (monitorOf (now (m .entry)) .«mms_rules») place ⌝ }
+{
+    rule_read_only(&m[15..64], place)
+}
+
+pub fn rule_read_only_on(m: &[u64; 1218], place: usize) -> bool
+    ensures { λ r. ⌜ r ≡ ruleReadOnly (monitorOf (now (m .entry)) .«mms_rules») place ⌝ }
+{
+    rule_read_only_lent(m, place)
+}
+
+// Its rate.
+fn rule_rate_lent(m: &[u64], place: usize) -> u16
+    requires { ⌜ length (now m) ≡ 1218 ⌝ }
+    ensures { λ r. ⌜ r ≡ ruleRate (monitorOf (now (m .entry)) .«mms_rules») place ⌝ }
+{
+    rule_rate(&m[15..64], place)
+}
+
+pub fn rule_rate_on(m: &[u64; 1218], place: usize) -> u16
+    ensures { λ r. ⌜ r ≡ ruleRate (monitorOf (now (m .entry)) .«mms_rules») place ⌝ }
+{
+    rule_rate_lent(m, place)
+}
+
+// The rate of an SV publisher.
+fn publisher_rate_lent(m: &[u64], place: usize) -> u16
+    requires { ⌜ length (now m) ≡ 1218 ⌝ }
+    ensures { λ r. ⌜ r ≡ publisherRate (monitorOf (now (m .entry)) .«sv_publishers») place ⌝ }
+{
+    publisher_rate(&m[241..434], place)
+}
+
+pub fn publisher_rate_on(m: &[u64; 1218], place: usize) -> u16
+    ensures { λ r. ⌜ r ≡ publisherRate (monitorOf (now (m .entry)) .«sv_publishers») place ⌝ }
+{
+    publisher_rate_lent(m, place)
 }

@@ -1,4 +1,4 @@
-// Reset, carried over from industrial/iec61850-monitor/src/lib.rs of craton-shield a31d888527 (Apache-2.0) and changed: each part made as new in place.
+// A new monitor and reset, carried over from industrial/iec61850-monitor/src/lib.rs of craton-shield a31d888527 (Apache-2.0) and changed: each part made as new in place.
 ghost use mathlib.Core.Path.{_≡_};
 ghost use Prim.Native.Nat.{_≤_, _-_};
 ghost use borrow.Rule.Slice.PartMut.{putMid};
@@ -6,12 +6,15 @@ ghost use lib.ListN.{length};
 ghost use Rattle.tables.specs.Column.{zeroWords};
 ghost use Rattle.tables.specs.Order.{noEntries};
 ghost use Rattle.monitor.specs.Monitor.{monitorOf, withTotals};
-ghost use Rattle.monitor.specs.Reset.{newTotals, resetMonitor};
+ghost use Rattle.monitor.specs.Reset.{newTotals, newMonitor, resetMonitor};
+use crate::settings::STRICT_MODE;
+use crate::settings::set_retx_schedule_on;
+use crate::settings::set_setting;
+use crate::totals::NEXT_ALERT_ID;
+use checks::keys::flag_word;
+use records::schedule::RetxSchedule;
 use tables::column::zero_words;
 use tables::order::clear;
-
-// Where the number of the next alert stands among the totals.
-const NEXT_ALERT_ID: usize = 3;
 
 // Nothing inspected, and the first alert gets number 1.
 fn zero_totals(t: &mut [u64])
@@ -81,4 +84,15 @@ pub fn reset_on(m: &mut [u64; 1218])
     clear_part(m, 738, 930);
     clear_part(m, 930, 994);
     clear_part(m, 994, 1218);
+}
+
+// A new monitor, strict or not, whatever stood there: nothing limited and nothing blocked; a schedule that is not enforced.
+pub fn new_on(m: &mut [u64; 1218], strict: bool)
+    ensures { λ _. ⌜ monitorOf (now (m .exit)) ≡ newMonitor strict ⌝ }
+{
+    zero_part(m, 0, 10);
+    set_setting(m, STRICT_MODE, flag_word(strict));
+    let schedule = RetxSchedule::default_8_1();
+    set_retx_schedule_on(m, schedule, false);
+    reset_on(m);
 }

@@ -1,11 +1,12 @@
 // Settings, carried over from industrial/iec61850-monitor/src/lib.rs of craton-shield a31d888527 (Apache-2.0) and changed: ten words, which the set
 // calls store in place.
 ghost use mathlib.Core.Path.{_≡_};
-ghost use Prim.Native.Nat.{_<_};
+ghost use Prim.Native.Nat.{_<_, min, _-_, _^_};
 ghost use lib.ListN.{length, set};
 ghost use Rattle.monitor.specs.Monitor.{monitorOf};
 ghost use Rattle.monitor.specs.Settings.{settingSet, setMmsServiceMask, setMmsReadOnly, setBlockTestFrames};
 ghost use Rattle.monitor.specs.Settings.{setSvMaxSmpCntGap, setRetxSchedule, setTimeMaxForwardJump};
+ghost use Rattle.monitor.specs.Settings.{setting, settingFlag, retxSchedule, timeMaxForwardJump};
 use checks::keys::flag_word;
 use records::schedule::RetxSchedule;
 
@@ -45,7 +46,7 @@ fn set_setting_lent(m: &mut [u64], place: usize, v: u64)
     store_setting(&mut m[0..10], place, v);
 }
 
-fn set_setting(m: &mut [u64; 1218], place: usize, v: u64)
+pub fn set_setting(m: &mut [u64; 1218], place: usize, v: u64)
     requires { ⌜ place < 10 ⌝ }
     ensures { λ _. ⌜ monitorOf (now (m .exit)) ≡ settingSet (monitorOf (now (m .entry))) place v ⌝ }
 {
@@ -95,4 +96,58 @@ pub fn set_time_max_forward_jump_s_on(m: &mut [u64; 1218], seconds: u32)
     ensures { λ _. ⌜ monitorOf (now (m .exit)) ≡ setTimeMaxForwardJump (monitorOf (now (m .entry))) seconds ⌝ }
 {
     set_setting(m, TIME_MAX_FORWARD_JUMP_S, seconds as u64);
+}
+
+// What a setting's word says.
+pub fn setting_on(m: &[u64; 1218], place: usize) -> u64
+    requires { ⌜ place < 10 ⌝ }
+    ensures { λ r. ⌜ r ≡ setting (monitorOf (now (m .entry))) place ⌝ }
+{
+    m[place]
+}
+
+// Whether a flag is set.
+pub fn flag_on(m: &[u64; 1218], place: usize) -> bool
+    requires { ⌜ place < 10 ⌝ }
+    ensures { λ r. ⌜ r ≡ settingFlag (monitorOf (now (m .entry))) place ⌝ }
+{
+    setting_on(m, place) != 0
+}
+
+// The most that 32 bits hold if a word has more.
+fn word32(word: u64) -> u32
+    ensures { λ r. ⌜ r ≡ min word (2 ^ 32 - 1) ⌝ }
+{
+    if word < 0xffff_ffff {
+        return word as u32;
+    }
+    0xffff_ffff
+}
+
+// The most that 8 bits hold if a word has more.
+fn word8(word: u64) -> u8
+    ensures { λ r. ⌜ r ≡ min word 255 ⌝ }
+{
+    if word < 255 {
+        return word as u8;
+    }
+    255
+}
+
+// The schedule of retransmissions.
+pub fn retx_schedule_on(m: &[u64; 1218]) -> RetxSchedule
+    ensures { λ r. ⌜ r ≡ retxSchedule (monitorOf (now (m .entry))) ⌝ }
+{
+    RetxSchedule {
+        initial_us: word32(setting_on(m, RETX_INITIAL_US)),
+        t_max_us: word32(setting_on(m, RETX_T_MAX_US)),
+        tolerance_pct: word8(setting_on(m, RETX_TOLERANCE_PCT)),
+    }
+}
+
+// How many seconds a clock may go ahead.
+pub fn time_max_forward_jump_s_on(m: &[u64; 1218]) -> u32
+    ensures { λ r. ⌜ r ≡ timeMaxForwardJump (monitorOf (now (m .entry))) ⌝ }
+{
+    word32(setting_on(m, TIME_MAX_FORWARD_JUMP_S))
 }

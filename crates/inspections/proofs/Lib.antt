@@ -1,0 +1,10 @@
+pub mod AddressLaws
+pub mod AlertLaws
+pub mod StageLaws
+pub mod SizeLaws
+pub mod CheckLaws
+pub mod ReportLaws
+pub mod SettingLaws
+pub mod RuleLaws
+pub mod CallLaws
+pub mod CallTheoremsHold

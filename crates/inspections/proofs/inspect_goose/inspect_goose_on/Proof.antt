@@ -1,0 +1,22 @@
+-- `inspect_goose_on` meets its contract.
+use borrow.Author.Needs.{needs}
+use Rattle.monitor.specs.Monitor.{monitorOf}
+use Rattle.inspections.proofs.StageLaws.{goose-inspected}
+use Rattle.inspections.proofs.inspect_goose.inspect_goose_on.Statement.{statement}
+use Rattle.inspections.proofs.inspect_goose.inspect_goose_on.Tie as tie
+
+returns : tie.Need-returns
+returns c =
+    let checked = c .before .before in
+    let counted = checked .before .before .before .before in
+    let hash = counted .before .before in
+    let address = hash .before in
+    let reservation = address .before in
+    let publisher = reservation .before in
+    let a = publisher .before .before .before .args in
+    goose-inspected (monitorOf (a .m .now)) (a .frame) (publisher .plain-key .ensures) (reservation .reservation-key .ensures)
+    (address .address-of .ensures) (hash .name-hash .ensures) (counted .count-frame-on .ensures) (checked .goose-checks-on .ensures)
+    (c .report-on .ensures)
+
+pub inspect-goose-on-spec : {M : Type 1} → statement M
+inspect-goose-on-spec = tie.close (tie.spec (λ c κs. search needs) (λ c κs. search needs) (λ c κs. search needs) (λ c κs. search needs) (λ c κs. search needs) (λ c κs. search needs) (λ c κs. search needs) returns)

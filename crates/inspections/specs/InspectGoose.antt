@@ -1,0 +1,117 @@
+-- The inspection of a GOOSE frame (01, "Refusals in checking order", 9 to 13).
+use Prim.Native.Nat.{ℕ}
+use mathlib.Core.Bool.{Bool, true, _&&_, not, cond}
+use mathlib.Core.List.{List, [], _∷_, _++_}
+use lib.Dec.{ltb}
+use lib.ListN.{getD}
+use Rattle.records.specs.declared.alert.AlertSeverity.the-variants.{Medium, High}
+use Rattle.records.specs.declared.alert.AlertCode.the-variants.{ReplayDetected, PolicyViolation, RetransmissionAnomaly}
+use Rattle.records.specs.declared.frame.GooseFrame.{GooseFrame}
+use Rattle.records.specs.declared.result.InspectResult.{InspectResult}
+use Rattle.records.specs.Alert.{sourceGoose}
+use Rattle.records.specs.Hash.{fnv1a}
+use Rattle.records.specs.Name.{nameOf}
+use Rattle.records.specs.Search.{isFound}
+use Rattle.checks.specs.GoosePublisher.{goosePublisher}
+use Rattle.checks.specs.GooseSeq.{retxChecked}
+use Rattle.checks.specs.Keys.{plainKey, gooseKey, reservationKey}
+use Rattle.monitor.specs.Monitor.{Monitor}
+use Rattle.monitor.specs.Parts.{After, gooseSeqOn, timeFieldOn, cbOn}
+use Rattle.monitor.specs.Settings.{blockTestFrames, retxSchedule, retxEnforce, timeMaxForwardJump}
+use Rattle.monitor.specs.Totals.{countedGoose}
+use Rattle.inspections.specs.declared.inspect_goose.GooseNumbers.{GooseNumbers}
+use Rattle.inspections.specs.Address.{addressOf}
+use Rattle.inspections.specs.Report.{Finding, Checked, refusal, notice, clockFindings, ended, unlessHijacked, reported}
+
+-- the control block's name, the frame's numbers, stNum and sqNum, and the pair of t, seconds and fraction
+abbrev pub controlBlock : GooseFrame → List ℕ
+controlBlock f = nameOf (f .«go_cb_ref») (f .«go_cb_ref_len»)
+
+abbrev pub gooseNumbers : GooseFrame → ℕ × ℕ
+gooseNumbers f = (f .«st_num», f .«sq_num»)
+
+abbrev pub goosePair : GooseFrame → ℕ × ℕ
+goosePair f = (f .«t_seconds_since_epoch», f .«t_fraction_of_second»)
+
+-- what the checks read of a frame: the keys of its control block among the publishers and among the reservations, and its numbers
+pub record GooseRead : Type 0 where
+  pub publisher : List ℕ
+  pub reservation : List ℕ
+  pub numbers : GooseNumbers
+
+abbrev pub gooseReadWith : List ℕ → List ℕ → ℕ → ℕ → GooseFrame → GooseRead
+gooseReadWith publisher reservation address hash f =
+    record {
+      publisher = publisher;
+      reservation = reservation;
+      numbers = record {
+        address = address;
+        hash = hash;
+        «st_num» = f .«st_num»;
+        «sq_num» = f .«sq_num»;
+        test = f .test;
+        «timestamp_us» = f .«timestamp_us»;
+        seconds = f .«t_seconds_since_epoch»;
+        fraction = f .«t_fraction_of_second»;
+      };
+    }
+
+abbrev pub gooseRead : GooseFrame → GooseRead
+gooseRead f =
+    gooseReadWith (plainKey (controlBlock f)) (reservationKey true (controlBlock f)) (addressOf (f .«src_mac»)) (fnv1a (controlBlock f)) f
+
+-- the stream's key, and the numbers with the time
+abbrev pub streamKey : GooseNumbers → List ℕ
+streamKey n = gooseKey (n .address) (n .hash)
+
+abbrev pub timedNumbers : GooseNumbers → (ℕ × ℕ) × ℕ
+timedNumbers n = ((n .«st_num», n .«sq_num»), n .«timestamp_us»)
+
+-- 13. replay: High 3; otherwise a retransmission outside tolerance is Medium 30
+abbrev pub streamFindings : Bool → Bool → List Finding
+streamFindings replay outside =
+    cond replay (refusal High ReplayDetected ∷ []) (cond outside (notice Medium RetransmissionAnomaly ∷ []) [])
+
+-- the retransmission is asked for only with enforcement on
+unfoldable pub retransmitted : Monitor → GooseNumbers → Bool
+retransmitted m n = retxEnforce m && retxChecked (retxSchedule m) (m .«goose_seq») (streamKey n) (timedNumbers n)
+
+-- the stream's alerts follow the clock's
+abbrev pub gooseStream : List Finding → Bool → After Bool → Checked
+gooseStream before outside c = ended (c .monitor) (before ++ streamFindings (c .answer) outside)
+
+module _ (n : GooseNumbers) where
+  -- the retransmission is looked up before anything of the stream is stored
+  abbrev pub gooseClock : After Bool → Checked
+  gooseClock c =
+      gooseStream (clockFindings (c .answer)) (retransmitted (c .monitor) n) (gooseSeqOn (c .monitor) (streamKey n) (timedNumbers n))
+
+  -- 12. clock alert: High 31, checking goes on
+  unfoldable pub gooseTimeField : Monitor → Checked
+  gooseTimeField m = gooseClock (timeFieldOn m (timeMaxForwardJump m) (n .address) (n .seconds, n .fraction))
+
+-- 11. named control block bound to another address: High 29
+unfoldable pub gooseReservation : GooseNumbers → List ℕ → Monitor → Checked
+gooseReservation n reservation m = unlessHijacked (gooseTimeField n) (cbOn m reservation (n .address))
+
+-- publishers exist, and none fits
+unfoldable pub gooseUnknown : Monitor → ℕ → List ℕ → Bool
+gooseUnknown m address name =
+    ltb 0 (getD (m .«goose_publishers») 176 0) && not (isFound (goosePublisher (m .«goose_publishers») address name))
+
+-- 10. publishers exist, none fits: High 6
+unfoldable pub gooseAllowed : Monitor → GooseRead → Checked
+gooseAllowed m f =
+    cond (gooseUnknown m (f .numbers .address) (f .publisher)) (ended m (refusal High PolicyViolation ∷ [])) (gooseReservation (f .numbers) (f .reservation) m)
+
+-- a test frame while blocked
+abbrev pub blocked : Monitor → Bool → Bool
+blocked m test = blockTestFrames m && test
+
+-- 9. test frame while blocked: Medium 6
+unfoldable pub gooseTest : Monitor → GooseRead → Checked
+gooseTest m f = cond (blocked m (f .numbers .test)) (ended m (refusal Medium PolicyViolation ∷ [])) (gooseAllowed m f)
+
+-- the monitor after a GOOSE frame, and the result
+unfoldable pub inspectGoose : Monitor → GooseFrame → After InspectResult
+inspectGoose m f = reported sourceGoose (f .«st_num») (f .«timestamp_us») (gooseTest (countedGoose m) (gooseRead f))

@@ -1,0 +1,7 @@
+pub mod Address
+pub mod Report
+pub mod InspectMms
+pub mod InspectGoose
+pub mod InspectSv
+pub mod Calls
+pub mod CallTheorems

@@ -1,0 +1,190 @@
+// The inspection of a GOOSE frame, carried over from industrial/iec61850-monitor/src/lib.rs of craton-shield a31d888527 (Apache-2.0) and changed: a
+// chain of stages on the monitor's words, each of which ends the checking or calls the next; the alerts added at the end.
+ghost use mathlib.Core.Path.{_≡_};
+ghost use mathlib.Core.List.{_++_};
+ghost use Rattle.records.specs.Hash.{fnv1a};
+ghost use Rattle.records.specs.Name.{nameOf};
+ghost use Rattle.monitor.specs.Monitor.{monitorOf};
+ghost use Rattle.inspections.specs.InspectGoose.{streamFindings, retransmitted, gooseTimeField, gooseReservation, gooseUnknown};
+ghost use Rattle.inspections.specs.InspectGoose.{gooseTest, blocked, inspectGoose};
+ghost use Rattle.inspections.specs.Report.{clockFindings, findingsOf, alertsOf};
+use crate::address::address_of;
+use crate::report::CheckAlert;
+use crate::report::CheckAlerts;
+use crate::report::clock_alert;
+use crate::report::refused;
+use crate::report::report_on;
+use checks::keys::goose_key;
+use checks::keys::plain_key;
+use checks::keys::reservation_key;
+use monitor::parts::check_cb_on;
+use monitor::parts::check_goose_seq_on;
+use monitor::parts::check_time_field_on;
+use monitor::parts::goose_publisher_count_on;
+use monitor::parts::goose_publisher_on;
+use monitor::parts::retx_anomaly_on;
+use monitor::settings::BLOCK_TEST_FRAMES;
+use monitor::settings::RETX_ENFORCE;
+use monitor::settings::flag_on;
+use monitor::settings::retx_schedule_on;
+use monitor::settings::time_max_forward_jump_s_on;
+use monitor::totals::GOOSE_TOTAL_INSPECTED;
+use monitor::totals::count_frame_on;
+use records::alert::AlertCode;
+use records::alert::AlertSeverity;
+use records::alert::SOURCE_IEC61850_GOOSE;
+use records::frame::GooseFrame;
+use records::hash::fnv1a_32;
+use records::name::valid_len;
+use records::result::InspectResult;
+use records::search::Found;
+
+// What the checks read of a frame beside its control block's name.
+pub struct GooseNumbers {
+    pub address: u64,
+    pub hash: u32,
+    pub st_num: u32,
+    pub sq_num: u32,
+    pub test: bool,
+    pub timestamp_us: u64,
+    pub seconds: u32,
+    pub fraction: u32,
+}
+
+// A replay refuses; otherwise a retransmission outside tolerance is told.
+fn stream_alert(replay: bool, outside: bool) -> CheckAlert
+    ensures { λ r. ⌜ findingsOf r ≡ streamFindings replay outside ⌝ }
+{
+    if replay {
+        return CheckAlert::Refusal(AlertSeverity::High, AlertCode::ReplayDetected);
+    }
+    if outside {
+        return CheckAlert::Notice(AlertSeverity::Medium, AlertCode::RetransmissionAnomaly);
+    }
+    CheckAlert::Nothing
+}
+
+// The alerts of the clock and the stream.
+fn goose_alerts(clock: bool, replay: bool, outside: bool) -> CheckAlerts
+    ensures { λ r. ⌜ alertsOf r ≡ clockFindings clock ++ streamFindings replay outside ⌝ }
+{
+    CheckAlerts {
+        first: clock_alert(clock),
+        second: stream_alert(replay, outside),
+        third: CheckAlert::Nothing,
+    }
+}
+
+// Whether a retransmission is outside tolerance; asked only with enforcement on.
+fn retransmitted(m: &[u64; 1218], n: GooseNumbers) -> bool
+    ensures { λ r. ⌜ r ≡ retransmitted (monitorOf (now (m .entry))) n ⌝ }
+{
+    if flag_on(m, RETX_ENFORCE) {
+        let schedule = retx_schedule_on(m);
+        let key = goose_key(n.address, n.hash);
+        return retx_anomaly_on(m, &key, schedule, n.st_num, n.sq_num, n.timestamp_us);
+    }
+    false
+}
+
+// 12, 13: the clock; the stream, also after a clock alert, with the retransmission looked up before anything of it is stored.
+fn goose_time_field(m: &mut [u64; 1218], n: GooseNumbers) -> CheckAlerts
+    ensures { λ r. ⌜ record { monitor = monitorOf (now (m .exit)); answer = alertsOf r } ≡ gooseTimeField n (monitorOf (now (m .entry))) ⌝ }
+{
+    let limit = time_max_forward_jump_s_on(m);
+    let clock = check_time_field_on(m, limit, n.address, n.seconds, n.fraction);
+    let outside = retransmitted(m, n);
+    let key = goose_key(n.address, n.hash);
+    let replay = check_goose_seq_on(m, &key, n.st_num, n.sq_num, n.timestamp_us);
+    goose_alerts(clock, replay, outside)
+}
+
+// 11: the control block's reservation.
+fn goose_reservation(m: &mut [u64; 1218], reservation: &[u64; 10], n: GooseNumbers) -> CheckAlerts
+    ensures { λ r. ⌜ record { monitor = monitorOf (now (m .exit)); answer = alertsOf r }
+        ≡ gooseReservation n (now (reservation .entry)) (monitorOf (now (m .entry))) ⌝ }
+{
+    if check_cb_on(m, reservation, n.address) {
+        return refused(AlertSeverity::High, AlertCode::CbHijack);
+    }
+    goose_time_field(m, n)
+}
+
+// 10: whether publishers exist and none fits.
+fn goose_unknown(m: &[u64; 1218], address: u64, publisher: &[u64; 10]) -> bool
+    ensures { λ r. ⌜ r ≡ gooseUnknown (monitorOf (now (m .entry))) address (now (publisher .entry)) ⌝ }
+{
+    if goose_publisher_count_on(m) == 0 {
+        return false;
+    }
+    match goose_publisher_on(m, address, publisher) {
+        Found::At(_) => false,
+        Found::Nothing => true,
+    }
+}
+
+// 9: whether a frame is a test frame while blocked.
+fn goose_blocked(m: &[u64; 1218], test: bool) -> bool
+    ensures { λ r. ⌜ r ≡ blocked (monitorOf (now (m .entry))) test ⌝ }
+{
+    if test {
+        return flag_on(m, BLOCK_TEST_FRAMES);
+    }
+    false
+}
+
+// The checks of a GOOSE frame, by the keys of its control block.
+pub fn goose_checks_on(
+    m: &mut [u64; 1218],
+    publisher: &[u64; 10],
+    reservation: &[u64; 10],
+    n: GooseNumbers,
+) -> CheckAlerts
+    ensures { λ r. ⌜ record { monitor = monitorOf (now (m .exit)); answer = alertsOf r }
+        ≡ gooseTest (monitorOf (now (m .entry))) (record { publisher = now (publisher .entry); reservation = now (reservation .entry); numbers = n }) ⌝ }
+{
+    if goose_blocked(m, n.test) {
+        return refused(AlertSeverity::Medium, AlertCode::PolicyViolation);
+    }
+    if goose_unknown(m, n.address, publisher) {
+        return refused(AlertSeverity::High, AlertCode::PolicyViolation);
+    }
+    goose_reservation(m, reservation, n)
+}
+
+// The hash of a frame's control block.
+fn name_hash(name: [u8; 64], len: u8) -> u32
+    ensures { λ r. ⌜ r ≡ fnv1a (nameOf name len) ⌝ }
+{
+    let n = valid_len(len) as usize;
+    fnv1a_32(&name[..n])
+}
+
+// Inspects a GOOSE frame.
+pub fn inspect_goose_on(m: &mut [u64; 1218], frame: GooseFrame) -> InspectResult
+    ensures { λ r. ⌜ record { monitor = monitorOf (now (m .exit)); answer = r } ≡ inspectGoose (monitorOf (now (m .entry))) frame ⌝ }
+{
+    let src_mac = frame.src_mac;
+    let go_cb_ref = frame.go_cb_ref;
+    let publisher = plain_key(go_cb_ref, frame.go_cb_ref_len);
+    let reservation = reservation_key(true, go_cb_ref, frame.go_cb_ref_len);
+    let n = GooseNumbers {
+        address: address_of(src_mac),
+        hash: name_hash(go_cb_ref, frame.go_cb_ref_len),
+        st_num: frame.st_num,
+        sq_num: frame.sq_num,
+        test: frame.test,
+        timestamp_us: frame.timestamp_us,
+        seconds: frame.t_seconds_since_epoch,
+        fraction: frame.t_fraction_of_second,
+    };
+    count_frame_on(m, GOOSE_TOTAL_INSPECTED);
+    let alerts = goose_checks_on(m, &publisher, &reservation, n);
+    report_on(
+        m,
+        alerts,
+        SOURCE_IEC61850_GOOSE,
+        frame.st_num,
+        frame.timestamp_us,
+    )
+}
