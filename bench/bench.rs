@@ -8,10 +8,8 @@ use vs_types_ind::SvFrame;
 #[allow(dead_code)]
 #[path = "../examples/rust/mokyndu.rs"]
 mod mokyndu;
-use mokyndu::{GooseFrame, MmsFrame, NO_ERROR};
-use mokyndu::{goose_in_place, mms_in_place, sv_in_place};
-use mokyndu::{mokyndu_add_mms_rule, mokyndu_inspect_goose, mokyndu_inspect_mms, mokyndu_inspect_raw_sv, mokyndu_inspect_sv};
-use mokyndu::{mokyndu_inspect_sv_batch, mokyndu_new, mokyndu_parse_sv};
+use mokyndu::{GooseFrame, MmsFrame, Monitor, Verdict};
+use mokyndu::{mokyndu_add_mms_rule, mokyndu_inspect_goose, mokyndu_inspect_mms, mokyndu_inspect_raw_sv, mokyndu_inspect_sv, mokyndu_new};
 
 // What a way of inspecting took, in nanoseconds for each frame of each round, and how many frames it allowed.
 struct Timed {
@@ -56,6 +54,13 @@ fn row(name: &str, batch: bool, ways: &[Timed]) {
     println!();
 }
 
+// A monitor for the calls in place.
+fn placed() -> Monitor {
+    let mut m = Monitor::UNSET;
+    m.new_in_place();
+    m
+}
+
 fn svid(stream: usize, len: usize) -> [u8; 64] {
     let mut octets = [0; 64];
     octets[..len].fill(b'M');
@@ -65,8 +70,8 @@ fn svid(stream: usize, len: usize) -> [u8; 64] {
 }
 
 // SV frames whose counts go on, or stand still: then all but the first of each stream are refused.
-fn sv_row(rounds: usize, frames: usize, streams: usize, len: usize, going: bool) {
-    let ours: Vec<mokyndu::SvFrame> = (0..frames)
+fn sv_frames(frames: usize, streams: usize, len: usize, going: bool) -> Vec<mokyndu::SvFrame> {
+    (0..frames)
         .map(|k| mokyndu::SvFrame {
             src_mac: [2, 0, 0, 0, 0, (k % streams) as u8],
             svid_len: len as u8,
@@ -79,37 +84,40 @@ fn sv_row(rounds: usize, frames: usize, streams: usize, len: usize, going: bool)
             t_seconds_since_epoch: 0,
             t_fraction_of_second: 0,
         })
-        .collect();
-    let theirs: Vec<SvFrame> = ours
-        .iter()
-        .map(|f| SvFrame {
-            src_mac: f.src_mac,
-            svid_len: f.svid_len,
-            svid: f.svid,
-            smp_cnt: f.smp_cnt,
-            smp_rate: f.smp_rate,
-            dataset_ref_len: f.dataset_ref_len,
-            dataset_ref: f.dataset_ref,
-            timestamp_us: f.timestamp_us,
-            t_seconds_since_epoch: f.t_seconds_since_epoch,
-            t_fraction_of_second: f.t_fraction_of_second,
-        })
-        .collect();
-    let mut verdicts = vec![0u8; frames * 8];
+        .collect()
+}
+
+fn their_sv(f: &mokyndu::SvFrame) -> SvFrame {
+    SvFrame {
+        src_mac: f.src_mac,
+        svid_len: f.svid_len,
+        svid: f.svid,
+        smp_cnt: f.smp_cnt,
+        smp_rate: f.smp_rate,
+        dataset_ref_len: f.dataset_ref_len,
+        dataset_ref: f.dataset_ref,
+        timestamp_us: f.timestamp_us,
+        t_seconds_since_epoch: f.t_seconds_since_epoch,
+        t_fraction_of_second: f.t_fraction_of_second,
+    }
+}
+
+fn sv_row(rounds: usize, frames: usize, streams: usize, len: usize, going: bool) {
+    let ours = sv_frames(frames, streams, len, going);
+    let theirs: Vec<SvFrame> = ours.iter().map(their_sv).collect();
+    let mut verdicts = vec![Verdict::default(); frames];
     let ways = timed(rounds, frames, &mut [
         &mut || {
             let mut m = rust::Iec61850Monitor::new();
             theirs.iter().filter(|f| m.inspect_sv(black_box(f)).allowed).count() as u64
         },
-        &mut || unsafe {
-            let m = mokyndu_new();
-            let octets = ours.as_ptr().cast();
-            black_box(mokyndu_inspect_sv_batch(m, octets, frames * size_of::<mokyndu::SvFrame>(), verdicts.as_mut_ptr(), verdicts.len()));
-            verdicts.chunks(8).filter(|v| v[0] == 1).count() as u64
+        &mut || {
+            assert_eq!(placed().sv_batch_in_place(&ours, &mut verdicts), frames as u64, "all frames inspected");
+            verdicts.iter().filter(|v| v.allowed == 1).count() as u64
         },
         &mut || {
-            let mut m = unsafe { mokyndu_new() };
-            ours.iter().filter(|f| sv_in_place(&mut m, black_box(f)).octets[0] == 1).count() as u64
+            let mut m = placed();
+            ours.iter().filter(|f| m.sv_in_place(black_box(f)).allowed == 1).count() as u64
         },
         &mut || unsafe {
             let mut m = mokyndu_new();
@@ -129,7 +137,7 @@ fn sv_row(rounds: usize, frames: usize, streams: usize, len: usize, going: bool)
 // What a call by value costs that does nothing: the monitor and a frame in, the monitor and a result out.
 #[inline(never)]
 extern "C" fn give_back(monitor: mokyndu::Monitor, frame: mokyndu::SvFrame) -> mokyndu::Inspected {
-    let mut result: mokyndu::Verdict = unsafe { std::mem::zeroed() };
+    let mut result: mokyndu::Result = unsafe { std::mem::zeroed() };
     result.allowed = frame.svid_len;
     mokyndu::Inspected { monitor, result }
 }
@@ -151,8 +159,8 @@ fn nothing_done(rounds: usize, frames: usize) {
     println!("\nA call by value of the same monitor, frame and result that does nothing: {:.0} / {:.0}", ways[0].best(), ways[0].median());
 }
 
-fn goose_row(rounds: usize, frames: usize, streams: usize) {
-    let ours: Vec<GooseFrame> = (0..frames)
+fn goose_frames(frames: usize, streams: usize) -> Vec<GooseFrame> {
+    (0..frames)
         .map(|k| GooseFrame {
             src_mac: [2, 0, 0, 0, 0, (k % streams) as u8],
             go_cb_ref: svid(k % streams, 20),
@@ -164,29 +172,34 @@ fn goose_row(rounds: usize, frames: usize, streams: usize) {
             t_seconds_since_epoch: 0,
             t_fraction_of_second: 0,
         })
-        .collect();
-    let theirs: Vec<rust::GooseFrame> = ours
-        .iter()
-        .map(|f| rust::GooseFrame {
-            src_mac: f.src_mac,
-            go_cb_ref: f.go_cb_ref,
-            go_cb_ref_len: f.go_cb_ref_len,
-            st_num: f.st_num,
-            sq_num: f.sq_num,
-            test: f.test != 0,
-            timestamp_us: f.timestamp_us,
-            t_seconds_since_epoch: f.t_seconds_since_epoch,
-            t_fraction_of_second: f.t_fraction_of_second,
-        })
-        .collect();
+        .collect()
+}
+
+fn their_goose(f: &GooseFrame) -> rust::GooseFrame {
+    rust::GooseFrame {
+        src_mac: f.src_mac,
+        go_cb_ref: f.go_cb_ref,
+        go_cb_ref_len: f.go_cb_ref_len,
+        st_num: f.st_num,
+        sq_num: f.sq_num,
+        test: f.test != 0,
+        timestamp_us: f.timestamp_us,
+        t_seconds_since_epoch: f.t_seconds_since_epoch,
+        t_fraction_of_second: f.t_fraction_of_second,
+    }
+}
+
+fn goose_row(rounds: usize, frames: usize, streams: usize) {
+    let ours = goose_frames(frames, streams);
+    let theirs: Vec<rust::GooseFrame> = ours.iter().map(their_goose).collect();
     let ways = timed(rounds, frames, &mut [
         &mut || {
             let mut m = rust::Iec61850Monitor::new();
             theirs.iter().filter(|f| m.inspect_goose(black_box(f)).allowed).count() as u64
         },
         &mut || {
-            let mut m = unsafe { mokyndu_new() };
-            ours.iter().filter(|f| goose_in_place(&mut m, black_box(f)).octets[0] == 1).count() as u64
+            let mut m = placed();
+            ours.iter().filter(|f| m.goose_in_place(black_box(f)).allowed == 1).count() as u64
         },
         &mut || unsafe {
             let mut m = mokyndu_new();
@@ -202,8 +215,8 @@ fn goose_row(rounds: usize, frames: usize, streams: usize) {
     row(&format!("GOOSE, {streams} streams"), false, &ways);
 }
 
-fn mms_row(rounds: usize, frames: usize) {
-    let ours: Vec<MmsFrame> = (0..frames)
+fn mms_frames(frames: usize) -> Vec<MmsFrame> {
+    (0..frames)
         .map(|k| MmsFrame {
             service_type: 4,
             raw_service_type: 4,
@@ -214,20 +227,25 @@ fn mms_row(rounds: usize, frames: usize) {
             client_id: 1,
             control_block_is_goose: 0,
         })
-        .collect();
-    let theirs: Vec<rust::MmsFrame> = ours
-        .iter()
-        .map(|f| rust::MmsFrame {
-            service_type: rust::MmsServiceType::from_u8(f.service_type),
-            raw_service_type: f.raw_service_type,
-            domain: f.domain,
-            domain_len: f.domain_len,
-            invoke_id: f.invoke_id,
-            timestamp_us: f.timestamp_us,
-            client_id: f.client_id,
-            control_block_is_goose: f.control_block_is_goose != 0,
-        })
-        .collect();
+        .collect()
+}
+
+fn their_mms(f: &MmsFrame) -> rust::MmsFrame {
+    rust::MmsFrame {
+        service_type: rust::MmsServiceType::from_u8(f.service_type),
+        raw_service_type: f.raw_service_type,
+        domain: f.domain,
+        domain_len: f.domain_len,
+        invoke_id: f.invoke_id,
+        timestamp_us: f.timestamp_us,
+        client_id: f.client_id,
+        control_block_is_goose: f.control_block_is_goose != 0,
+    }
+}
+
+fn mms_row(rounds: usize, frames: usize) {
+    let ours = mms_frames(frames);
+    let theirs: Vec<rust::MmsFrame> = ours.iter().map(their_mms).collect();
     let ways = timed(rounds, frames, &mut [
         &mut || {
             let mut m = rust::Iec61850Monitor::new();
@@ -235,8 +253,9 @@ fn mms_row(rounds: usize, frames: usize) {
             theirs.iter().filter(|f| m.inspect_mms(black_box(f)).allowed).count() as u64
         },
         &mut || {
-            let mut m = unsafe { mokyndu_add_mms_rule(mokyndu_new(), 0xFFFF, 0, 50).monitor };
-            ours.iter().filter(|f| mms_in_place(&mut m, black_box(f)).octets[0] == 1).count() as u64
+            let mut m = placed();
+            m.add_mms_rule_in_place(0xFFFF, false, 50);
+            ours.iter().filter(|f| m.mms_in_place(black_box(f)).allowed == 1).count() as u64
         },
         &mut || unsafe {
             let mut m = mokyndu_add_mms_rule(mokyndu_new(), 0xFFFF, 0, 50).monitor;
@@ -282,16 +301,9 @@ fn raw_row(rounds: usize, frames: usize, octets: usize) {
             }
             allowed
         },
-        &mut || unsafe {
-            let mut m = mokyndu_new();
-            let mut allowed = 0;
-            for (k, octets) in raw.iter().enumerate() {
-                let p = mokyndu_parse_sv(black_box(octets).as_ptr(), octets.len(), k as u64);
-                if p.error == NO_ERROR {
-                    allowed += (sv_in_place(&mut m, &p.frame).octets[0] == 1) as u64;
-                }
-            }
-            allowed
+        &mut || {
+            let mut m = placed();
+            raw.iter().enumerate().filter(|(k, octets)| m.raw_sv_in_place(black_box(octets), *k as u64).verdict.allowed == 1).count() as u64
         },
         &mut || unsafe {
             let mut m = mokyndu_new();
@@ -299,7 +311,7 @@ fn raw_row(rounds: usize, frames: usize, octets: usize) {
             for (k, octets) in raw.iter().enumerate() {
                 let i = mokyndu_inspect_raw_sv(m, black_box(octets).as_ptr(), octets.len(), k as u64);
                 m = i.monitor;
-                allowed += (i.error == NO_ERROR && i.result.allowed == 1) as u64;
+                allowed += i.result.allowed as u64;
             }
             allowed
         },

@@ -1,7 +1,13 @@
-// The exports of libhost.a for Rust; crates/host/include/mokyndu.h says what each call does and what it costs.
-// A caller makes a monitor with mokyndu_new or mokyndu_new_strict, and only calls change it. Its fields are the engine's own; the flags
-// among them are 0 or 1.
-use std::mem::size_of;
+// The exports of libhost.a for Rust; crates/host/include/mokyndu.h says what each call does. A call in place is a method of `Monitor` too,
+// with the name of the export but for `mokyndu_`: `m.sv_in_place(&frame)` is `mokyndu_sv_in_place(&mut m, &frame)`.
+use std::mem::{size_of, size_of_val};
+
+// The whole state of a monitor, in words of the engine's own.
+#[repr(C)]
+#[derive(Clone, Copy)]
+pub struct Monitor {
+    words: [u64; 1218],
+}
 
 #[repr(C)]
 #[derive(Clone, Copy)]
@@ -9,140 +15,6 @@ pub struct RetxSchedule {
     pub initial_us: u32,
     pub t_max_us: u32,
     pub tolerance_pct: u8,
-}
-
-#[repr(C)]
-#[derive(Clone, Copy)]
-pub struct Settings {
-    strict_mode: u8,
-    block_test_frames: u8,
-    mms_service_mask: u16,
-    mms_read_only: u8,
-    retx_schedule: RetxSchedule,
-    retx_enforce: u8,
-    time_max_forward_jump_s: u32,
-    sv_max_smp_cnt_gap: u16,
-}
-
-#[repr(C)]
-#[derive(Clone, Copy)]
-struct Ageing {
-    active: [u8; 16],
-    last_used: [u32; 16],
-    tick: u32,
-}
-
-#[repr(C)]
-#[derive(Clone, Copy)]
-struct Names {
-    octets: [u8; 1024],
-    lens: [u8; 16],
-}
-
-#[repr(C)]
-#[derive(Clone, Copy)]
-pub struct MmsRules {
-    service_mask: [u16; 16],
-    read_only: [u8; 16],
-    max_rate_per_sec: [u16; 16],
-    count: u8,
-}
-
-#[repr(C)]
-#[derive(Clone, Copy)]
-struct GoosePublishers {
-    src_mac: [u64; 16],
-    go_cb_ref: Names,
-    count: u8,
-}
-
-#[repr(C)]
-#[derive(Clone, Copy)]
-struct SvPublishers {
-    src_mac: [u64; 16],
-    svid: Names,
-    expected_smp_rate: [u16; 16],
-    count: u8,
-}
-
-#[repr(C)]
-#[derive(Clone, Copy)]
-struct Rules {
-    mms: MmsRules,
-    goose: GoosePublishers,
-    sv: SvPublishers,
-}
-
-#[repr(C)]
-#[derive(Clone, Copy)]
-struct RateBuckets {
-    key: [u64; 16],
-    tokens: [u16; 16],
-    capacity: [u16; 16],
-    last_refill_us: [u64; 16],
-    ageing: Ageing,
-}
-
-#[repr(C)]
-#[derive(Clone, Copy)]
-struct GooseSeq {
-    src_mac: [u64; 16],
-    go_cb_ref_hash: [u32; 16],
-    last_st_num: [u32; 16],
-    last_sq_num: [u32; 16],
-    last_seen_us: [u64; 16],
-    ageing: Ageing,
-}
-
-#[repr(C)]
-#[derive(Clone, Copy)]
-struct SvSeq {
-    svid: Names,
-    last_smp_cnt: [u16; 16],
-    ageing: Ageing,
-}
-
-#[repr(C)]
-#[derive(Clone, Copy)]
-struct TimeTrackers {
-    src_mac: [u64; 16],
-    last_t_seconds: [u32; 16],
-    last_t_fraction: [u32; 16],
-    ageing: Ageing,
-}
-
-#[repr(C)]
-#[derive(Clone, Copy)]
-struct CbReservations {
-    cb_ref: Names,
-    is_goose: [u8; 16],
-    owner_client_id: [u32; 16],
-    bound: [u8; 16],
-    bound_src_mac: [u64; 16],
-    active: [u8; 16],
-}
-
-#[repr(C)]
-#[derive(Clone, Copy)]
-struct Totals {
-    mms_total_inspected: u64,
-    goose_total_inspected: u64,
-    sv_total_inspected: u64,
-    next_alert_id: u64,
-    total_alerts: u64,
-}
-
-#[repr(C)]
-#[derive(Clone, Copy)]
-pub struct Monitor {
-    settings: Settings,
-    rules: Rules,
-    rate_buckets: RateBuckets,
-    goose_seq: GooseSeq,
-    sv_seq: SvSeq,
-    time_trackers: TimeTrackers,
-    cb_reservations: CbReservations,
-    totals: Totals,
 }
 
 #[repr(C)]
@@ -188,6 +60,28 @@ pub struct SvFrame {
 }
 
 #[repr(C)]
+#[derive(Clone, Copy, Default)]
+pub struct VerdictAlert {
+    pub code: u8,
+    pub severity: u8,
+}
+
+#[repr(C)]
+#[derive(Clone, Copy, Default)]
+pub struct Verdict {
+    pub allowed: u8,
+    pub alert_count: u8,
+    pub alerts: [VerdictAlert; 3],
+}
+
+#[repr(C)]
+#[derive(Clone, Copy)]
+pub struct RawVerdict {
+    pub verdict: Verdict,
+    pub error: u8,
+}
+
+#[repr(C)]
 #[derive(Clone, Copy)]
 pub struct Alert {
     pub id: u64,
@@ -201,26 +95,12 @@ pub struct Alert {
 
 #[repr(C)]
 #[derive(Clone, Copy)]
-pub struct Verdict {
+pub struct Result {
     pub allowed: u8,
     pub alert_count: u8,
     pub source_type: u8,
     pub alerts_truncated: u8,
     pub alerts: [Alert; 4],
-}
-
-impl Monitor {
-    // The number that the next alert will have.
-    pub fn next_alert_id(&self) -> u64 {
-        self.totals.next_alert_id
-    }
-}
-
-// Allowed, the number of alerts, then the code and the severity of each of up to three.
-#[repr(C)]
-#[derive(Clone, Copy)]
-pub struct VerdictOctets {
-    pub octets: [u8; VERDICT_LEN],
 }
 
 #[repr(C)]
@@ -232,33 +112,62 @@ pub struct Configured {
 #[repr(C)]
 pub struct Inspected {
     pub monitor: Monitor,
-    pub result: Verdict,
+    pub result: Result,
 }
 
 #[repr(C)]
 pub struct RawInspected {
     pub monitor: Monitor,
-    pub result: Verdict,
+    pub result: Result,
     pub error: u8,
 }
 
-const _: () = assert!(size_of::<MmsFrame>() == 88 && size_of::<GooseFrame>() == 104 && size_of::<SvFrame>() == 160);
-const _: () = assert!(size_of::<Verdict>() == 232 && size_of::<Configured>() == 6280);
 #[repr(C)]
 pub struct Parsed {
     pub frame: SvFrame,
     pub error: u8,
 }
 
-const _: () = assert!(size_of::<Monitor>() == 6272 && size_of::<Parsed>() == 168);
-const _: () = assert!(size_of::<Inspected>() == 6504 && size_of::<RawInspected>() == 6512);
+const _: () = assert!(size_of::<Monitor>() == 9744 && size_of::<RetxSchedule>() == 12);
+const _: () = assert!(size_of::<MmsFrame>() == 88 && size_of::<GooseFrame>() == 104 && size_of::<SvFrame>() == 160);
+const _: () = assert!(size_of::<Verdict>() == 8 && size_of::<RawVerdict>() == 9);
+const _: () = assert!(size_of::<Alert>() == 56 && size_of::<Result>() == 232 && size_of::<Configured>() == 9752);
+const _: () = assert!(size_of::<Inspected>() == 9976 && size_of::<RawInspected>() == 9984 && size_of::<Parsed>() == 168);
 
 // In the place of an error's number: added, or read.
 pub const NO_ERROR: u8 = 255;
 
-// The octets of a verdict of a batch, or of a frame in place.
-pub const VERDICT_LEN: usize = 8;
+// In place.
+extern "C" {
+    pub fn mokyndu_new_in_place(monitor: &mut Monitor);
+    pub fn mokyndu_new_strict_in_place(monitor: &mut Monitor);
+    pub fn mokyndu_reset_in_place(monitor: &mut Monitor);
+    pub fn mokyndu_set_mms_service_mask_in_place(monitor: &mut Monitor, mask: u16);
+    pub fn mokyndu_set_mms_read_only_in_place(monitor: &mut Monitor, read_only: u8);
+    pub fn mokyndu_set_block_test_frames_in_place(monitor: &mut Monitor, block: u8);
+    pub fn mokyndu_set_sv_max_smp_cnt_gap_in_place(monitor: &mut Monitor, gap: u16);
+    pub fn mokyndu_set_retx_schedule_in_place(monitor: &mut Monitor, schedule: RetxSchedule, enforce: u8);
+    pub fn mokyndu_set_time_max_forward_jump_s_in_place(monitor: &mut Monitor, seconds: u32);
+    pub fn mokyndu_add_mms_rule_in_place(monitor: &mut Monitor, service_mask: u16, read_only: u8, max_rate_per_sec: u16) -> u8;
+    pub fn mokyndu_add_goose_publisher_in_place(monitor: &mut Monitor, src_mac: &[u8; 6], go_cb_ref: *const u8, len: usize) -> u8;
+    pub fn mokyndu_add_sv_publisher_in_place(
+        monitor: &mut Monitor, src_mac: &[u8; 6], svid: *const u8, len: usize, expected_smp_rate: u16,
+    ) -> u8;
+    pub fn mokyndu_mms_in_place(monitor: &mut Monitor, frame: &MmsFrame) -> Verdict;
+    pub fn mokyndu_goose_in_place(monitor: &mut Monitor, frame: &GooseFrame) -> Verdict;
+    pub fn mokyndu_sv_in_place(monitor: &mut Monitor, frame: &SvFrame) -> Verdict;
+    pub fn mokyndu_raw_sv_in_place(monitor: &mut Monitor, octets: *const u8, len: usize, timestamp_us: u64) -> RawVerdict;
+    pub fn mokyndu_sv_batch_in_place(
+        monitor: &mut Monitor, frames: *const SvFrame, frames_len: usize, verdicts: *mut Verdict, verdicts_len: usize,
+    ) -> u64;
+    pub fn mokyndu_mms_total_inspected_in_place(monitor: &Monitor) -> u64;
+    pub fn mokyndu_goose_total_inspected_in_place(monitor: &Monitor) -> u64;
+    pub fn mokyndu_sv_total_inspected_in_place(monitor: &Monitor) -> u64;
+    pub fn mokyndu_total_alerts_in_place(monitor: &Monitor) -> u64;
+    pub fn mokyndu_strict_mode_in_place(monitor: &Monitor) -> u8;
+}
 
+// By value.
 extern "C" {
     pub fn mokyndu_new() -> Monitor;
     pub fn mokyndu_new_strict() -> Monitor;
@@ -270,38 +179,13 @@ extern "C" {
     pub fn mokyndu_set_retx_schedule(monitor: Monitor, schedule: RetxSchedule, enforce: u8) -> Monitor;
     pub fn mokyndu_set_time_max_forward_jump_s(monitor: Monitor, seconds: u32) -> Monitor;
     pub fn mokyndu_add_mms_rule(monitor: Monitor, service_mask: u16, read_only: u8, max_rate_per_sec: u16) -> Configured;
-    pub fn mokyndu_add_goose_publisher(monitor: Monitor, src_mac: *const u8, go_cb_ref: *const u8, len: usize) -> Configured;
-    pub fn mokyndu_add_sv_publisher(monitor: Monitor, src_mac: *const u8, svid: *const u8, len: usize, expected_smp_rate: u16) -> Configured;
+    pub fn mokyndu_add_goose_publisher(monitor: Monitor, src_mac: &[u8; 6], go_cb_ref: *const u8, len: usize) -> Configured;
+    pub fn mokyndu_add_sv_publisher(monitor: Monitor, src_mac: &[u8; 6], svid: *const u8, len: usize, expected_smp_rate: u16) -> Configured;
     pub fn mokyndu_inspect_mms(monitor: Monitor, frame: MmsFrame) -> Inspected;
     pub fn mokyndu_inspect_goose(monitor: Monitor, frame: GooseFrame) -> Inspected;
     pub fn mokyndu_inspect_sv(monitor: Monitor, frame: SvFrame) -> Inspected;
     pub fn mokyndu_inspect_raw_sv(monitor: Monitor, octets: *const u8, len: usize, timestamp_us: u64) -> RawInspected;
-    pub fn mokyndu_inspect_mms_in(
-        frame: MmsFrame, settings: Settings, rules: MmsRules, keys: *mut u64, tokens: *mut u16, capacity: *mut u16,
-        last_refill_us: *mut u64, active: *mut u8, used: *mut u32, tick: *mut u32, cb_refs: *mut u8, cb_lens: *mut u8,
-        cb_kinds: *mut u8, cb_owners: *mut u32, cb_bound: *mut u8, cb_macs: *mut u64, cb_active: *mut u8, total: *mut u64,
-        next_alert_id: *mut u64, total_alerts: *mut u64,
-    ) -> VerdictOctets;
-    pub fn mokyndu_inspect_goose_in(
-        frame: GooseFrame, settings: Settings, rule_macs: *const u64, rule_refs: *const u8, rule_lens: *const u8,
-        rule_count: u8, cb_refs: *const u8, cb_lens: *const u8, cb_kinds: *const u8, cb_active: *const u8, cb_bound: *mut u8,
-        cb_macs: *mut u64, clock_macs: *mut u64, clock_seconds: *mut u32, clock_fractions: *mut u32, clock_active: *mut u8,
-        clock_used: *mut u32, clock_tick: *mut u32, src_macs: *mut u64, hashes: *mut u32, last_st_num: *mut u32,
-        last_sq_num: *mut u32, last_seen_us: *mut u64, active: *mut u8, used: *mut u32, tick: *mut u32, total: *mut u64,
-        next_alert_id: *mut u64, total_alerts: *mut u64,
-    ) -> VerdictOctets;
-    pub fn mokyndu_inspect_sv_in(
-        frame: SvFrame, settings: Settings, rule_macs: *const u64, rule_svids: *const u8, rule_lens: *const u8,
-        rule_rates: *const u16, rule_count: u8, cb_refs: *const u8, cb_lens: *const u8, cb_kinds: *const u8,
-        cb_active: *const u8, cb_bound: *mut u8, cb_macs: *mut u64, clock_macs: *mut u64, clock_seconds: *mut u32,
-        clock_fractions: *mut u32, clock_active: *mut u8, clock_used: *mut u32, clock_tick: *mut u32, svids: *mut u8,
-        svid_lens: *mut u8, counts: *mut u16, active: *mut u8, used: *mut u32, tick: *mut u32, total: *mut u64,
-        next_alert_id: *mut u64, total_alerts: *mut u64,
-    ) -> VerdictOctets;
     pub fn mokyndu_parse_sv(octets: *const u8, len: usize, timestamp_us: u64) -> Parsed;
-    pub fn mokyndu_inspect_sv_batch(
-        monitor: Monitor, frames: *const u8, frames_len: usize, verdicts: *mut u8, verdicts_len: usize,
-    ) -> Monitor;
     pub fn mokyndu_mms_total_inspected(monitor: Monitor) -> u64;
     pub fn mokyndu_goose_total_inspected(monitor: Monitor) -> u64;
     pub fn mokyndu_sv_total_inspected(monitor: Monitor) -> u64;
@@ -309,58 +193,97 @@ extern "C" {
     pub fn mokyndu_strict_mode(monitor: Monitor) -> u8;
 }
 
-// The verdict on a frame, with the monitor changed where it stands.
-#[inline]
-pub fn mms_in_place(m: &mut Monitor, frame: &MmsFrame) -> VerdictOctets {
-    unsafe {
-        mokyndu_inspect_mms_in(
-            *frame, m.settings, m.rules.mms, m.rate_buckets.key.as_mut_ptr(), m.rate_buckets.tokens.as_mut_ptr(),
-            m.rate_buckets.capacity.as_mut_ptr(), m.rate_buckets.last_refill_us.as_mut_ptr(),
-            m.rate_buckets.ageing.active.as_mut_ptr(), m.rate_buckets.ageing.last_used.as_mut_ptr(),
-            &mut m.rate_buckets.ageing.tick, m.cb_reservations.cb_ref.octets.as_mut_ptr(),
-            m.cb_reservations.cb_ref.lens.as_mut_ptr(), m.cb_reservations.is_goose.as_mut_ptr(),
-            m.cb_reservations.owner_client_id.as_mut_ptr(), m.cb_reservations.bound.as_mut_ptr(),
-            m.cb_reservations.bound_src_mac.as_mut_ptr(), m.cb_reservations.active.as_mut_ptr(),
-            &mut m.totals.mms_total_inspected, &mut m.totals.next_alert_id, &mut m.totals.total_alerts,
-        )
-    }
-}
+// Safe: any words are a monitor, any octets a frame, and a reference or a slice is what each call asks for.
+impl Monitor {
+    // Words in which `new_in_place` or `new_strict_in_place` makes a monitor.
+    pub const UNSET: Monitor = Monitor { words: [0; 1218] };
 
-// The verdict on a frame, with the monitor changed where it stands.
-#[inline]
-pub fn goose_in_place(m: &mut Monitor, frame: &GooseFrame) -> VerdictOctets {
-    unsafe {
-        mokyndu_inspect_goose_in(
-            *frame, m.settings, m.rules.goose.src_mac.as_ptr(), m.rules.goose.go_cb_ref.octets.as_ptr(),
-            m.rules.goose.go_cb_ref.lens.as_ptr(), m.rules.goose.count, m.cb_reservations.cb_ref.octets.as_ptr(),
-            m.cb_reservations.cb_ref.lens.as_ptr(), m.cb_reservations.is_goose.as_ptr(), m.cb_reservations.active.as_ptr(),
-            m.cb_reservations.bound.as_mut_ptr(), m.cb_reservations.bound_src_mac.as_mut_ptr(),
-            m.time_trackers.src_mac.as_mut_ptr(), m.time_trackers.last_t_seconds.as_mut_ptr(),
-            m.time_trackers.last_t_fraction.as_mut_ptr(), m.time_trackers.ageing.active.as_mut_ptr(),
-            m.time_trackers.ageing.last_used.as_mut_ptr(), &mut m.time_trackers.ageing.tick, m.goose_seq.src_mac.as_mut_ptr(),
-            m.goose_seq.go_cb_ref_hash.as_mut_ptr(), m.goose_seq.last_st_num.as_mut_ptr(), m.goose_seq.last_sq_num.as_mut_ptr(),
-            m.goose_seq.last_seen_us.as_mut_ptr(), m.goose_seq.ageing.active.as_mut_ptr(),
-            m.goose_seq.ageing.last_used.as_mut_ptr(), &mut m.goose_seq.ageing.tick, &mut m.totals.goose_total_inspected,
-            &mut m.totals.next_alert_id, &mut m.totals.total_alerts,
-        )
+    pub fn new_in_place(&mut self) {
+        unsafe { mokyndu_new_in_place(self) }
     }
-}
 
-// The verdict on a frame, with the monitor changed where it stands.
-#[inline]
-pub fn sv_in_place(m: &mut Monitor, frame: &SvFrame) -> VerdictOctets {
-    unsafe {
-        mokyndu_inspect_sv_in(
-            *frame, m.settings, m.rules.sv.src_mac.as_ptr(), m.rules.sv.svid.octets.as_ptr(), m.rules.sv.svid.lens.as_ptr(),
-            m.rules.sv.expected_smp_rate.as_ptr(), m.rules.sv.count, m.cb_reservations.cb_ref.octets.as_ptr(),
-            m.cb_reservations.cb_ref.lens.as_ptr(), m.cb_reservations.is_goose.as_ptr(), m.cb_reservations.active.as_ptr(),
-            m.cb_reservations.bound.as_mut_ptr(), m.cb_reservations.bound_src_mac.as_mut_ptr(),
-            m.time_trackers.src_mac.as_mut_ptr(), m.time_trackers.last_t_seconds.as_mut_ptr(),
-            m.time_trackers.last_t_fraction.as_mut_ptr(), m.time_trackers.ageing.active.as_mut_ptr(),
-            m.time_trackers.ageing.last_used.as_mut_ptr(), &mut m.time_trackers.ageing.tick, m.sv_seq.svid.octets.as_mut_ptr(),
-            m.sv_seq.svid.lens.as_mut_ptr(), m.sv_seq.last_smp_cnt.as_mut_ptr(), m.sv_seq.ageing.active.as_mut_ptr(),
-            m.sv_seq.ageing.last_used.as_mut_ptr(), &mut m.sv_seq.ageing.tick, &mut m.totals.sv_total_inspected,
-            &mut m.totals.next_alert_id, &mut m.totals.total_alerts,
-        )
+    pub fn new_strict_in_place(&mut self) {
+        unsafe { mokyndu_new_strict_in_place(self) }
+    }
+
+    pub fn reset_in_place(&mut self) {
+        unsafe { mokyndu_reset_in_place(self) }
+    }
+
+    pub fn set_mms_service_mask_in_place(&mut self, mask: u16) {
+        unsafe { mokyndu_set_mms_service_mask_in_place(self, mask) }
+    }
+
+    pub fn set_mms_read_only_in_place(&mut self, read_only: bool) {
+        unsafe { mokyndu_set_mms_read_only_in_place(self, read_only.into()) }
+    }
+
+    pub fn set_block_test_frames_in_place(&mut self, block: bool) {
+        unsafe { mokyndu_set_block_test_frames_in_place(self, block.into()) }
+    }
+
+    pub fn set_sv_max_smp_cnt_gap_in_place(&mut self, gap: u16) {
+        unsafe { mokyndu_set_sv_max_smp_cnt_gap_in_place(self, gap) }
+    }
+
+    pub fn set_retx_schedule_in_place(&mut self, schedule: RetxSchedule, enforce: bool) {
+        unsafe { mokyndu_set_retx_schedule_in_place(self, schedule, enforce.into()) }
+    }
+
+    pub fn set_time_max_forward_jump_s_in_place(&mut self, seconds: u32) {
+        unsafe { mokyndu_set_time_max_forward_jump_s_in_place(self, seconds) }
+    }
+
+    pub fn add_mms_rule_in_place(&mut self, service_mask: u16, read_only: bool, max_rate_per_sec: u16) -> u8 {
+        unsafe { mokyndu_add_mms_rule_in_place(self, service_mask, read_only.into(), max_rate_per_sec) }
+    }
+
+    pub fn add_goose_publisher_in_place(&mut self, src_mac: &[u8; 6], go_cb_ref: &[u8]) -> u8 {
+        unsafe { mokyndu_add_goose_publisher_in_place(self, src_mac, go_cb_ref.as_ptr(), go_cb_ref.len()) }
+    }
+
+    pub fn add_sv_publisher_in_place(&mut self, src_mac: &[u8; 6], svid: &[u8], expected_smp_rate: u16) -> u8 {
+        unsafe { mokyndu_add_sv_publisher_in_place(self, src_mac, svid.as_ptr(), svid.len(), expected_smp_rate) }
+    }
+
+    pub fn mms_in_place(&mut self, frame: &MmsFrame) -> Verdict {
+        unsafe { mokyndu_mms_in_place(self, frame) }
+    }
+
+    pub fn goose_in_place(&mut self, frame: &GooseFrame) -> Verdict {
+        unsafe { mokyndu_goose_in_place(self, frame) }
+    }
+
+    pub fn sv_in_place(&mut self, frame: &SvFrame) -> Verdict {
+        unsafe { mokyndu_sv_in_place(self, frame) }
+    }
+
+    pub fn raw_sv_in_place(&mut self, octets: &[u8], timestamp_us: u64) -> RawVerdict {
+        unsafe { mokyndu_raw_sv_in_place(self, octets.as_ptr(), octets.len(), timestamp_us) }
+    }
+
+    pub fn sv_batch_in_place(&mut self, frames: &[SvFrame], verdicts: &mut [Verdict]) -> u64 {
+        let (frames_len, verdicts_len) = (size_of_val(frames), size_of_val(verdicts));
+        unsafe { mokyndu_sv_batch_in_place(self, frames.as_ptr(), frames_len, verdicts.as_mut_ptr(), verdicts_len) }
+    }
+
+    pub fn mms_total_inspected_in_place(&self) -> u64 {
+        unsafe { mokyndu_mms_total_inspected_in_place(self) }
+    }
+
+    pub fn goose_total_inspected_in_place(&self) -> u64 {
+        unsafe { mokyndu_goose_total_inspected_in_place(self) }
+    }
+
+    pub fn sv_total_inspected_in_place(&self) -> u64 {
+        unsafe { mokyndu_sv_total_inspected_in_place(self) }
+    }
+
+    pub fn total_alerts_in_place(&self) -> u64 {
+        unsafe { mokyndu_total_alerts_in_place(self) }
+    }
+
+    pub fn strict_mode_in_place(&self) -> bool {
+        unsafe { mokyndu_strict_mode_in_place(self) != 0 }
     }
 }

@@ -1,22 +1,40 @@
-// A small recorder: sets a monitor up, hands it frames and prints the verdicts. examples/c/recorder.c prints the same lines.
-// examples/run builds and runs both. Each `unsafe` call gets a monitor that a call returned, and a slice's own pointer and length.
+// A small recorder: sets a monitor up, hands it frames and prints the verdicts, in place; then two frames by value.
+// examples/c/recorder.c and examples/python/recorder.py print the same lines. examples/run builds and runs all three.
 #[allow(dead_code)]
 mod mokyndu;
-use mokyndu::*;
-use std::mem::size_of_val;
+use mokyndu::{mokyndu_inspect_sv, GooseFrame, MmsFrame, Monitor, RetxSchedule, SvFrame, Verdict, NO_ERROR};
 
 const SEVERITIES: [&str; 5] = ["info", "low", "medium", "high", "critical"];
 const UNIT: [u8; 6] = [2, 0, 0, 0, 0, 1];
+const SECOND: [u8; 6] = [2, 0, 0, 0, 0, 2];
 const STRANGER: [u8; 6] = [2, 0, 0, 0, 0, 9];
 const BLOCK: &[u8] = b"IED1LD0/LLN0$GO$gcb1";
-
-// The monitor between two frames.
-struct Recorder(Monitor);
+const RAW: [u8; 39] = *b"\x01\x0C\xCD\x04\x00\x01\x02\x00\x00\x00\x00\x01\x88\xBA\x40\x00\x00\x19\x00\x00\x00\x00\
+    \x60\x0F\x80\x01\x01\xA2\x0A\x30\x08\x80\x02M1\x82\x02\x00\x65";
 
 fn name(octets: &[u8]) -> [u8; 64] {
     let mut out = [0; 64];
     out[..octets.len()].copy_from_slice(octets);
     out
+}
+
+fn said(allowed: u8) -> &'static str {
+    if allowed != 0 { "allowed" } else { "refused" }
+}
+
+fn added(what: &str, error: u8) {
+    match error {
+        NO_ERROR => println!("{what}: added"),
+        error => println!("{what}: error {error}"),
+    }
+}
+
+fn verdict(what: &str, v: Verdict) {
+    print!("{what}: {}", said(v.allowed));
+    for a in &v.alerts[..v.alert_count as usize] {
+        print!(", code {}, {}", a.code, SEVERITIES[a.severity as usize]);
+    }
+    println!();
 }
 
 fn sv_frame(src_mac: [u8; 6], smp_cnt: u16, timestamp_us: u64) -> SvFrame {
@@ -26,126 +44,92 @@ fn sv_frame(src_mac: [u8; 6], smp_cnt: u16, timestamp_us: u64) -> SvFrame {
     }
 }
 
-impl Recorder {
-    fn verdict(&mut self, what: &str, i: Inspected) {
-        self.0 = i.monitor;
-        print!("{what}: {}", if i.result.allowed != 0 { "allowed" } else { "refused" });
-        for a in &i.result.alerts[..i.result.alert_count as usize] {
-            print!(", alert {} of code {}, {}, at {} us", a.id, a.code, SEVERITIES[a.severity as usize], a.timestamp_us);
-            print!(", source {} number {}", a.source_type, a.source_id);
-        }
-        println!();
-    }
+fn sv(m: &mut Monitor, what: &str, src_mac: [u8; 6], smp_cnt: u16, timestamp_us: u64) {
+    verdict(what, m.sv_in_place(&sv_frame(src_mac, smp_cnt, timestamp_us)));
+}
 
-    fn added(&mut self, what: &str, c: Configured) {
-        self.0 = c.monitor;
-        match c.error {
-            NO_ERROR => println!("{what}: added"),
-            error => println!("{what}: error {error}"),
-        }
-    }
+fn goose(m: &mut Monitor, what: &str, src_mac: [u8; 6], sq_num: u32, test: u8, timestamp_us: u64) {
+    let frame = GooseFrame {
+        src_mac, go_cb_ref: name(BLOCK), go_cb_ref_len: BLOCK.len() as u8, st_num: 7, sq_num, test,
+        timestamp_us, t_seconds_since_epoch: 0, t_fraction_of_second: 0,
+    };
+    verdict(what, m.goose_in_place(&frame));
+}
 
-    fn sv(&mut self, what: &str, src_mac: [u8; 6], smp_cnt: u16, timestamp_us: u64) {
-        let answer = unsafe { mokyndu_inspect_sv(self.0, sv_frame(src_mac, smp_cnt, timestamp_us)) };
-        self.verdict(what, answer);
-    }
+fn mms(m: &mut Monitor, what: &str, service: u8, invoke_id: u32, timestamp_us: u64) {
+    let frame = MmsFrame {
+        service_type: service, raw_service_type: service, domain: [0; 64], domain_len: 0, invoke_id, timestamp_us,
+        client_id: 3, control_block_is_goose: 0,
+    };
+    verdict(what, m.mms_in_place(&frame));
+}
 
-    // Two frames of the next counts and a replay, for one copy of the monitor.
-    fn sv_batch(&mut self, smp_cnt: u16, timestamp_us: u64) {
-        let frames = [0, 1, 2].map(|k| sv_frame(UNIT, smp_cnt + k % 2, timestamp_us + u64::from(k)));
-        let mut verdicts = [[0u8; VERDICT_LEN]; 3];
-        let (from, to) = (frames.as_ptr().cast(), verdicts.as_mut_ptr().cast());
-        self.0 = unsafe { mokyndu_inspect_sv_batch(self.0, from, size_of_val(&frames), to, size_of_val(&verdicts)) };
-        for (f, v) in frames.iter().zip(verdicts) {
-            let said = if v[0] != 0 { "allowed" } else { "refused" };
-            println!("batch, SV frame {}: {said}, alerts {}, first of code {}", f.smp_cnt, v[1], v[2]);
-        }
-    }
-
-    fn goose(&mut self, what: &str, src_mac: [u8; 6], sq_num: u32, test: u8, timestamp_us: u64) {
-        let frame = GooseFrame {
-            src_mac, go_cb_ref: name(BLOCK), go_cb_ref_len: BLOCK.len() as u8, st_num: 7, sq_num, test,
-            timestamp_us, t_seconds_since_epoch: 0, t_fraction_of_second: 0,
-        };
-        let answer = unsafe { mokyndu_inspect_goose(self.0, frame) };
-        self.verdict(what, answer);
-    }
-
-    fn mms(&mut self, what: &str, service: u8, invoke_id: u32, timestamp_us: u64) {
-        let frame = MmsFrame {
-            service_type: service, raw_service_type: service, domain: [0; 64], domain_len: 0, invoke_id, timestamp_us,
-            client_id: 3, control_block_is_goose: 0,
-        };
-        let answer = unsafe { mokyndu_inspect_mms(self.0, frame) };
-        self.verdict(what, answer);
-    }
-
-    fn raw_sv(&mut self, what: &str, octets: &[u8], timestamp_us: u64) {
-        let r = unsafe { mokyndu_inspect_raw_sv(self.0, octets.as_ptr(), octets.len(), timestamp_us) };
-        match r.error {
-            NO_ERROR => self.verdict(what, Inspected { monitor: r.monitor, result: r.result }),
-            error => println!("{what}: error {error}"),
-        }
-    }
-
-    // A raw frame is read, given the next count, and inspected twice in place, the second time as a replay.
-    fn sv_in_place(&mut self, octets: &[u8], time: u64) {
-        let parsed = unsafe { mokyndu_parse_sv(octets.as_ptr(), octets.len(), time) };
-        if parsed.error != NO_ERROR {
-            return;
-        }
-        let frame = SvFrame { smp_cnt: 104, ..parsed.frame };
-        for _ in 0..2 {
-            let v = sv_in_place(&mut self.0, &frame).octets;
-            let answer = if v[0] == 1 { "allowed" } else { "refused" };
-            println!("in place, SV frame {}: {answer}, alerts {}, first of code {}", frame.smp_cnt, v[1], v[2]);
-        }
-    }
-
-    fn add_sv_publisher(&mut self, what: &str, svid: &[u8], rate: u16) {
-        let answer = unsafe { mokyndu_add_sv_publisher(self.0, UNIT.as_ptr(), svid.as_ptr(), svid.len(), rate) };
-        self.added(what, answer);
+fn raw_sv(m: &mut Monitor, what: &str, octets: &[u8], timestamp_us: u64) {
+    let r = m.raw_sv_in_place(octets, timestamp_us);
+    match r.error {
+        NO_ERROR => verdict(what, r.verdict),
+        error => println!("{what}: error {error}, {}", said(r.verdict.allowed)),
     }
 }
 
-// A strict monitor with its settings made.
-fn configured() -> Monitor {
-    let schedule = RetxSchedule { initial_us: 2000, t_max_us: 1000000, tolerance_pct: 50 };
-    unsafe {
-        let monitor = mokyndu_set_mms_read_only(mokyndu_new_strict(), 1);
-        let monitor = mokyndu_set_block_test_frames(monitor, 1);
-        let monitor = mokyndu_set_sv_max_smp_cnt_gap(monitor, 16);
-        mokyndu_set_retx_schedule(monitor, schedule, 1)
+// Two frames of the next counts, a replay, and a frame for whose verdict there is no room.
+fn sv_batch(m: &mut Monitor, smp_cnt: u16, timestamp_us: u64) {
+    let frames = [0, 1, 2, 3].map(|k| sv_frame(UNIT, smp_cnt + k % 2, timestamp_us + u64::from(k)));
+    let mut verdicts = [Verdict::default(); 3];
+    let inspected = m.sv_batch_in_place(&frames, &mut verdicts);
+    println!("batch of 4 SV frames, room for 3 verdicts: {inspected} inspected");
+    for (f, v) in frames.iter().zip(&verdicts[..inspected as usize]) {
+        verdict(&format!("batch, SV frame {}", f.smp_cnt), *v);
     }
+}
+
+// The same by value: the monitor goes in and comes back, and the result has the alerts' numbers and times.
+fn sv_by_value(m: &mut Monitor, what: &str, smp_cnt: u16, timestamp_us: u64) {
+    let i = unsafe { mokyndu_inspect_sv(*m, sv_frame(UNIT, smp_cnt, timestamp_us)) };
+    *m = i.monitor;
+    print!("{what}: {}", said(i.result.allowed));
+    for a in &i.result.alerts[..i.result.alert_count as usize] {
+        print!(", alert {} of code {}, {}, at {} us", a.id, a.code, SEVERITIES[a.severity as usize], a.timestamp_us);
+        print!(", source {} number {}", a.source_type, a.source_id);
+    }
+    println!();
+}
+
+fn configured() -> Monitor {
+    let mut m = Monitor::UNSET;
+    m.new_strict_in_place();
+    m.set_mms_read_only_in_place(true);
+    m.set_block_test_frames_in_place(true);
+    m.set_sv_max_smp_cnt_gap_in_place(16);
+    m.set_retx_schedule_in_place(RetxSchedule { initial_us: 2000, t_max_us: 1000000, tolerance_pct: 50 }, true);
+    added("SV publisher M1", m.add_sv_publisher_in_place(&UNIT, b"M1", 4000));
+    added("SV publisher of 65 octets", m.add_sv_publisher_in_place(&UNIT, &[0; 65], 0));
+    added("GOOSE publisher", m.add_goose_publisher_in_place(&UNIT, BLOCK));
+    added("GOOSE publisher of any name", m.add_goose_publisher_in_place(&SECOND, b""));
+    added("MMS rule", m.add_mms_rule_in_place(0xFFFF, false, 1));
+    m
 }
 
 fn main() {
-    let mut octets = *b"\x01\x0C\xCD\x04\x00\x01\x02\x00\x00\x00\x00\x01\x88\xBA\x40\x00\x00\x19\x00\x00\x00\x00\x60\x0F\x80\x01\x01\xA2\x0A\x30\x08\x80\x02M1\x82\x02\x00\x65";
-    let mut r = Recorder(configured());
-    r.add_sv_publisher("SV publisher M1", b"M1", 4000);
-    r.add_sv_publisher("SV publisher of 65 octets", &[0; 65], 0);
-    let answer = unsafe { mokyndu_add_goose_publisher(r.0, UNIT.as_ptr(), BLOCK.as_ptr(), BLOCK.len()) };
-    r.added("GOOSE publisher", answer);
-    let answer = unsafe { mokyndu_add_mms_rule(r.0, 0xFFFF, 0, 1) };
-    r.added("MMS rule", answer);
-    r.sv("SV frame 100", UNIT, 100, 1000000);
-    r.sv("SV frame 100 again", UNIT, 100, 1000250);
-    r.sv("SV frame of another address", STRANGER, 101, 1000500);
-    r.raw_sv("raw SV frame 101", &octets, 1000750);
-    octets[30] += 1;
-    r.raw_sv("raw SV frame, one octet damaged", &octets, 1001000);
-    r.sv_batch(102, 1002000);
-    octets[30] -= 1;
-    r.sv_in_place(&octets, 1003000);
-    r.goose("GOOSE frame", UNIT, 0, 0, 2000000);
-    r.goose("GOOSE frame too late", UNIT, 1, 0, 2007000);
-    r.goose("GOOSE test frame", UNIT, 2, 1, 2066000);
-    r.goose("GOOSE frame of another address", STRANGER, 2, 0, 2066000);
-    r.mms("MMS read", 1, 12, 3000000);
-    r.mms("MMS read above the rate", 1, 12, 3000100);
-    r.mms("MMS write", 2, 13, 3000200);
-    let (m, strict) = (r.0, unsafe { mokyndu_strict_mode(r.0) });
-    let (mms, goose) = unsafe { (mokyndu_mms_total_inspected(m), mokyndu_goose_total_inspected(m)) };
-    let (sv, alerts) = unsafe { (mokyndu_sv_total_inspected(m), mokyndu_total_alerts(m)) };
-    println!("strict {strict}, MMS {mms}, GOOSE {goose}, SV {sv}, alerts {alerts}");
+    let mut m = configured();
+    let mut damaged = RAW;
+    damaged[30] += 1;
+    sv(&mut m, "SV frame 100", UNIT, 100, 1000000);
+    sv(&mut m, "SV frame 100 again", UNIT, 100, 1000250);
+    sv(&mut m, "SV frame of another address", STRANGER, 101, 1000500);
+    raw_sv(&mut m, "raw SV frame 101", &RAW, 1000750);
+    raw_sv(&mut m, "raw SV frame, one octet damaged", &damaged, 1001000);
+    sv_batch(&mut m, 102, 1002000);
+    goose(&mut m, "GOOSE frame", UNIT, 0, 0, 2000000);
+    goose(&mut m, "GOOSE frame too late", UNIT, 1, 0, 2007000);
+    goose(&mut m, "GOOSE test frame", UNIT, 2, 1, 2066000);
+    goose(&mut m, "GOOSE frame of another address", STRANGER, 2, 0, 2066000);
+    mms(&mut m, "MMS read", 1, 12, 3000000);
+    mms(&mut m, "MMS read above the rate", 1, 12, 3000100);
+    mms(&mut m, "MMS write", 2, 13, 3000200);
+    sv_by_value(&mut m, "by value, SV frame 104", 104, 4000000);
+    sv_by_value(&mut m, "by value, SV frame 104 again", 104, 4000250);
+    print!("strict {}, MMS {}, ", u8::from(m.strict_mode_in_place()), m.mms_total_inspected_in_place());
+    print!("GOOSE {}, SV {}, ", m.goose_total_inspected_in_place(), m.sv_total_inspected_in_place());
+    println!("alerts {}", m.total_alerts_in_place());
 }

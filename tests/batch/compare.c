@@ -1,7 +1,7 @@
-/* Compares the batch form and the calls in place with the calls by value: compare SEED BATCHES. Batches of SV frames with few keys, made
-   from the seed, go to one monitor in one call, to another one by one by value, and to a third one by one in place; then MMS and GOOSE
-   frames go to the last two. The verdicts must be equal, and after each turn the whole monitors. Some batches end within a frame, and
-   some have no room for all verdicts. Started by `run`. */
+/* Compares the calls in place and the batch with the calls by value: compare SEED BATCHES. Two monitors are set up from the seed, one by
+   value and one in place. Batches of SV frames with few keys go to one monitor in one call, to another one by one by value, and to a
+   third one by one in place; then MMS, GOOSE and raw SV frames go to the last two. The verdicts must be equal, and after each turn the
+   whole monitors and their totals. Some batches end within a frame, and some have no room for all verdicts. Started by `run`. */
 #include <inttypes.h>
 #include <stdio.h>
 #include <stdlib.h>
@@ -10,7 +10,7 @@
 
 enum { MOST = 40 };
 
-static uint64_t state;
+static uint64_t state, inspected, refused, alerts, raw_read, raw_unreadable;
 
 /* A number below n (the generator of Knuth's MMIX). */
 static uint32_t below(uint32_t n) {
@@ -64,126 +64,174 @@ static mokyndu_mms_frame mms_frame(void) {
     return f;
 }
 
-/* A monitor with some settings, publishers and reservations, made from the seed. */
-static mokyndu_monitor configured(void) {
-    mokyndu_monitor m = below(2) ? mokyndu_new() : mokyndu_new_strict();
-    m = mokyndu_set_sv_max_smp_cnt_gap(m, below(20));
-    m = mokyndu_set_time_max_forward_jump_s(m, below(20));
-    m = mokyndu_set_block_test_frames(m, below(2));
-    m = mokyndu_set_mms_read_only(m, below(4) == 0);
-    m = mokyndu_set_retx_schedule(m, (mokyndu_retx_schedule){4000, 1000000, 25}, below(2));
-    for (uint32_t k = below(3); k > 0; k--)
-        m = mokyndu_add_mms_rule(m, below(2) ? 0xFFFF : below(65536), below(2), below(3)).monitor;
-    for (uint32_t k = below(3); k > 0; k--) {
-        uint8_t mac[6] = {0, 0, 0, 0, 0, below(18)}, name[1] = {below(3)};
-        m = mokyndu_add_goose_publisher(m, mac, name, below(2)).monitor;
-    }
-    for (uint32_t k = below(4); k > 0; k--) {
-        uint8_t mac[6] = {0, 0, 0, 0, 0, below(18)}, svid[2] = {'A' + below(3), below(7)};
-        m = mokyndu_add_sv_publisher(m, mac, svid, 2, below(2) * 4000).monitor;
-    }
-    for (uint32_t k = below(4); k > 0; k--) {
-        mokyndu_mms_frame f = {.service_type = MOKYNDU_SERVICE_SELECT_CONTROL, .raw_service_type = 11, .domain_len = 1, .client_id = k};
-        f.domain[0] = below(3);
-        m = mokyndu_inspect_mms(m, f).monitor;
-    }
-    return m;
+/* A raw SV frame; now and then one octet of it is another one. */
+static void raw_frame(uint8_t octets[39]) {
+    static const uint8_t good[39] = {1, 12, 205, 4, 0, 1, 0, 0, 0, 0, 0, 0, 0x88, 0xBA, 0x40, 0, 0, 25, 0, 0, 0, 0,
+                                     0x60, 15, 0x80, 1, 1, 0xA2, 10, 0x30, 8, 0x80, 2, 'A', 0, 0x82, 2, 0, 0};
+    memcpy(octets, good, sizeof good);
+    octets[11] = below(18);
+    octets[33] = 'A' + below(3);
+    octets[34] = below(7);
+    octets[38] = below(40);
+    if (below(3) == 0)
+        octets[below(39)] = below(256);
 }
 
-/* The eight octets of a single call's result. */
-static void verdict_of(const mokyndu_result *r, uint8_t out[MOKYNDU_VERDICT_LEN]) {
-    out[0] = r->allowed;
-    out[1] = r->alert_count;
-    for (int k = 0; k < 3; k++) {
-        out[2 + 2 * k] = r->alerts[k].code;
-        out[3 + 2 * k] = r->alerts[k].severity;
-    }
-}
-
-#define SAME(field) (memcmp(&a->field, &b->field, sizeof a->field) == 0)
-
-/* Whether two monitors are equal in every field. The octets between fields, which a copy may leave or not, do not count. */
 static int same_monitor(const mokyndu_monitor *a, const mokyndu_monitor *b) {
-    return SAME(settings.strict_mode) && SAME(settings.block_test_frames) && SAME(settings.mms_service_mask) &&
-        SAME(settings.mms_read_only) && SAME(settings.retx_schedule.initial_us) && SAME(settings.retx_schedule.t_max_us) &&
-        SAME(settings.retx_schedule.tolerance_pct) && SAME(settings.retx_enforce) && SAME(settings.time_max_forward_jump_s) &&
-        SAME(settings.sv_max_smp_cnt_gap) && SAME(rules.mms.service_mask) && SAME(rules.mms.read_only) &&
-        SAME(rules.mms.max_rate_per_sec) && SAME(rules.mms.count) && SAME(rules.goose.src_mac) && SAME(rules.goose.go_cb_ref) &&
-        SAME(rules.goose.count) && SAME(rules.sv.src_mac) && SAME(rules.sv.svid) && SAME(rules.sv.expected_smp_rate) &&
-        SAME(rules.sv.count) && SAME(rate_buckets.key) && SAME(rate_buckets.tokens) && SAME(rate_buckets.capacity) &&
-        SAME(rate_buckets.last_refill_us) && SAME(rate_buckets.ageing) && SAME(goose_seq.src_mac) &&
-        SAME(goose_seq.go_cb_ref_hash) && SAME(goose_seq.last_st_num) && SAME(goose_seq.last_sq_num) &&
-        SAME(goose_seq.last_seen_us) && SAME(goose_seq.ageing) && SAME(sv_seq.svid) && SAME(sv_seq.last_smp_cnt) &&
-        SAME(sv_seq.ageing) && SAME(time_trackers.src_mac) && SAME(time_trackers.last_t_seconds) &&
-        SAME(time_trackers.last_t_fraction) && SAME(time_trackers.ageing) && SAME(cb_reservations.cb_ref) &&
-        SAME(cb_reservations.is_goose) && SAME(cb_reservations.owner_client_id) && SAME(cb_reservations.bound) &&
-        SAME(cb_reservations.bound_src_mac) && SAME(cb_reservations.active) && SAME(totals);
+    return memcmp(a, b, sizeof *a) == 0;
 }
 
-/* Whether the verdict of a call in place is that of the call by value. */
-static int same(const mokyndu_inspected *i, mokyndu_verdict v) {
-    uint8_t octets[MOKYNDU_VERDICT_LEN];
-    verdict_of(&i->result, octets);
-    return memcmp(octets, v.octets, sizeof octets) == 0;
+static int same_totals(const mokyndu_monitor *a, const mokyndu_monitor *b) {
+    return mokyndu_mms_total_inspected(*a) == mokyndu_mms_total_inspected_in_place(b) &&
+        mokyndu_goose_total_inspected(*a) == mokyndu_goose_total_inspected_in_place(b) &&
+        mokyndu_sv_total_inspected(*a) == mokyndu_sv_total_inspected_in_place(b) &&
+        mokyndu_total_alerts(*a) == mokyndu_total_alerts_in_place(b) &&
+        mokyndu_strict_mode(*a) == mokyndu_strict_mode_in_place(b);
 }
 
-/* MMS and GOOSE frames, by value and in place. Answers whether verdicts and monitors are equal. */
+/* Whether a verdict is that of a result. */
+static int same_verdict(const mokyndu_result *r, mokyndu_verdict v) {
+    int same = v.allowed == r->allowed && v.alert_count == r->alert_count;
+    for (int k = 0; k < 3; k++)
+        same &= v.alerts[k].code == r->alerts[k].code && v.alerts[k].severity == r->alerts[k].severity;
+    return same;
+}
+
+/* Settings, made from the seed, by value and in place. */
+static void set(mokyndu_monitor *one, mokyndu_monitor *placed) {
+    mokyndu_retx_schedule schedule = {4000, 1000000, 25};
+    uint8_t strict = below(2), block = below(2), read_only = below(4) == 0, enforce = below(2);
+    uint16_t gap = below(20), mask = below(4) ? 0 : below(65536);
+    uint32_t jump = below(20);
+    *one = strict ? mokyndu_new_strict() : mokyndu_new();
+    *one = mokyndu_set_sv_max_smp_cnt_gap(*one, gap);
+    *one = mokyndu_set_time_max_forward_jump_s(*one, jump);
+    *one = mokyndu_set_block_test_frames(*one, block);
+    *one = mokyndu_set_mms_read_only(*one, read_only);
+    *one = mokyndu_set_mms_service_mask(*one, mask);
+    *one = mokyndu_set_retx_schedule(*one, schedule, enforce);
+    memset(placed, below(256), sizeof *placed);
+    (strict ? mokyndu_new_strict_in_place : mokyndu_new_in_place)(placed);
+    mokyndu_set_sv_max_smp_cnt_gap_in_place(placed, gap);
+    mokyndu_set_time_max_forward_jump_s_in_place(placed, jump);
+    mokyndu_set_block_test_frames_in_place(placed, block);
+    mokyndu_set_mms_read_only_in_place(placed, read_only);
+    mokyndu_set_mms_service_mask_in_place(placed, mask);
+    mokyndu_set_retx_schedule_in_place(placed, schedule, enforce);
+}
+
+/* Rules, made from the seed, by value and in place; now and then a name is too long, or none is given. Answers whether the errors are equal. */
+static int add(mokyndu_monitor *one, mokyndu_monitor *placed) {
+    int same = 1;
+    for (uint32_t k = below(10) ? below(7) : 20; k > 0; k--) {
+        uint8_t mac[6] = {0, 0, 0, 0, 0, below(18)}, name[65] = {'A' + below(3), below(7)}, read_only = below(2), error;
+        size_t len = below(20) ? 2 : 65 - below(2);
+        uint16_t mask = below(2) ? 0xFFFF : below(65536), rate = below(3);
+        mokyndu_configured c;
+        switch (below(3)) {
+        case 0:
+            c = mokyndu_add_mms_rule(*one, mask, read_only, rate);
+            error = mokyndu_add_mms_rule_in_place(placed, mask, read_only, rate);
+            break;
+        case 1:
+            len = below(2) ? len : 0;
+            c = mokyndu_add_goose_publisher(*one, mac, len ? name : NULL, len);
+            error = mokyndu_add_goose_publisher_in_place(placed, mac, len ? name : NULL, len);
+            break;
+        default:
+            c = mokyndu_add_sv_publisher(*one, mac, name, len, rate * 4000);
+            error = mokyndu_add_sv_publisher_in_place(placed, mac, name, len, rate * 4000);
+        }
+        *one = c.monitor;
+        same &= c.error == error;
+    }
+    return same;
+}
+
+/* An MMS, a GOOSE or a raw SV frame, by value and in place. Answers whether the verdicts are equal. */
+static int other_agrees(mokyndu_monitor *one, mokyndu_monitor *placed) {
+    mokyndu_mms_frame request = mms_frame();
+    mokyndu_goose_frame message = goose_frame();
+    uint8_t octets[39];
+    size_t len = below(20) ? sizeof octets : below(39);
+    mokyndu_inspected i;
+    raw_frame(octets);
+    switch (below(3)) {
+    case 0:
+        i = mokyndu_inspect_goose(*one, message);
+        *one = i.monitor;
+        return same_verdict(&i.result, mokyndu_goose_in_place(placed, &message));
+    case 1:
+        i = mokyndu_inspect_mms(*one, request);
+        *one = i.monitor;
+        return same_verdict(&i.result, mokyndu_mms_in_place(placed, &request));
+    }
+    mokyndu_raw_inspected r = mokyndu_inspect_raw_sv(*one, len ? octets : NULL, len, message.timestamp_us);
+    mokyndu_raw_verdict v = mokyndu_raw_sv_in_place(placed, len ? octets : NULL, len, message.timestamp_us);
+    int read = r.error == MOKYNDU_NO_ERROR;
+    int kept = read || (!r.result.allowed && r.result.alert_count == 0 && same_monitor(one, &r.monitor));
+    *one = r.monitor;
+    raw_read += read;
+    raw_unreadable += !read;
+    return kept && r.error == v.error && same_verdict(&r.result, v.verdict);
+}
+
 static int others_agree(mokyndu_monitor *one, mokyndu_monitor *placed) {
     for (uint32_t k = below(20); k > 0; k--) {
-        mokyndu_inspected i;
-        mokyndu_verdict v;
-        if (below(2)) {
-            mokyndu_goose_frame f = goose_frame();
-            i = mokyndu_inspect_goose(*one, f);
-            v = mokyndu_goose_in_place(placed, f);
-        } else {
-            mokyndu_mms_frame f = mms_frame();
-            i = mokyndu_inspect_mms(*one, f);
-            v = mokyndu_mms_in_place(placed, f);
-        }
-        *one = i.monitor;
-        if (!same(&i, v) || !same_monitor(one, placed))
+        if (!other_agrees(one, placed) || !same_monitor(one, placed))
             return 0;
     }
-    return 1;
+    if (below(10) == 0) {
+        *one = mokyndu_reset(*one);
+        mokyndu_reset_in_place(placed);
+    }
+    return same_monitor(one, placed) && same_totals(one, placed);
+}
+
+/* SV frames in one call, one by one by value, and one by one in place. Answers whether count, verdicts and monitors are equal. */
+static int sv_agrees(mokyndu_monitor *one, mokyndu_monitor *many, mokyndu_monitor *placed) {
+    mokyndu_sv_frame frames[MOST];
+    mokyndu_verdict together[MOST + 1], single[MOST + 1];
+    size_t frames_len = below(sizeof frames + 1), verdicts_len = below(sizeof together + 1);
+    size_t count = frames_len / sizeof *frames < verdicts_len / 8 ? frames_len / sizeof *frames : verdicts_len / 8;
+    int same = 1;
+    for (int k = 0; k < MOST; k++)
+        frames[k] = frame();
+    memset(together, 0xEE, sizeof together);
+    memset(single, 0xEE, sizeof single);
+    same &= mokyndu_sv_batch_in_place(many, frames_len ? frames : NULL, frames_len, together, verdicts_len) == count;
+    for (size_t k = 0; k < count; k++) {
+        mokyndu_inspected i = mokyndu_inspect_sv(*one, frames[k]);
+        *one = i.monitor;
+        single[k] = mokyndu_sv_in_place(placed, &frames[k]);
+        same &= same_verdict(&i.result, single[k]);
+        refused += !i.result.allowed;
+        alerts += i.result.alert_count;
+    }
+    inspected += count;
+    return same && memcmp(together, single, sizeof single) == 0 && same_monitor(one, many) && same_monitor(one, placed);
 }
 
 int main(int argc, char **argv) {
-    uint64_t batches = argc > 2 ? strtoull(argv[2], NULL, 10) : 20000, inspected = 0, refused = 0, alerts = 0;
+    uint64_t batches = argc > 2 ? strtoull(argv[2], NULL, 10) : 20000;
     state = argc > 1 ? strtoull(argv[1], NULL, 10) : 1;
     for (uint64_t b = 0; b < batches; b++) {
-        mokyndu_sv_frame frames[MOST];
-        uint8_t together[MOST * MOKYNDU_VERDICT_LEN + 8], single[sizeof together];
-        mokyndu_monitor one = configured(), many = one, placed = one;
-        int in_place = 1;
-        for (int turn = 0; turn < 3; turn++) {
-            size_t frames_len = below(sizeof frames + 1), verdicts_len = below(sizeof together + 1);
-            size_t count = frames_len / sizeof *frames < verdicts_len / 8 ? frames_len / sizeof *frames : verdicts_len / 8;
-            for (int k = 0; k < MOST; k++)
-                frames[k] = frame();
-            memset(together, 0xEE, sizeof together);
-            memset(single, 0xEE, sizeof single);
-            many = mokyndu_inspect_sv_batch(many, (const uint8_t *)frames, frames_len, together, verdicts_len);
-            for (size_t k = 0; k < count; k++) {
-                mokyndu_inspected i = mokyndu_inspect_sv(one, frames[k]);
-                one = i.monitor;
-                in_place &= same(&i, mokyndu_sv_in_place(&placed, frames[k]));
-                verdict_of(&i.result, single + k * MOKYNDU_VERDICT_LEN);
-                refused += !i.result.allowed;
-                alerts += i.result.alert_count;
-            }
-            inspected += count;
-            if (memcmp(together, single, sizeof single) != 0 || !same_monitor(&one, &many)) {
-                printf("DIFFERENT in batch %" PRIu64 ", turn %d: %zu frames\n", b, turn, count);
-                return 1;
-            }
-            if (!in_place || !same_monitor(&one, &placed) || !others_agree(&one, &placed)) {
-                printf("DIFFERENT in place, batch %" PRIu64 ", turn %d\n", b, turn);
-                return 1;
-            }
+        mokyndu_monitor one, many, placed;
+        set(&one, &placed);
+        if (!add(&one, &placed) || !same_monitor(&one, &placed)) {
+            printf("DIFFERENT set up, batch %" PRIu64 "\n", b);
+            return 1;
+        }
+        for (int turn = 0; turn < 4; turn++) {
+            int same = others_agree(&one, &placed);
             many = one;
+            if (!same || !sv_agrees(&one, &many, &placed)) {
+                printf("DIFFERENT in batch %" PRIu64 ", turn %d\n", b, turn);
+                return 1;
+            }
         }
     }
-    printf("%" PRIu64 " SV frames in batches, by value and in place, with MMS and GOOSE frames between: no difference; refused %" PRIu64 ", alerts %" PRIu64 "\n", inspected, refused, alerts);
+    printf("%" PRIu64 " SV frames in batches, by value and in place, with MMS, GOOSE and raw SV frames between: no difference; refused %" PRIu64
+           ", alerts %" PRIu64 "; raw frames read %" PRIu64 ", unreadable %" PRIu64 "\n", inspected, refused, alerts, raw_read, raw_unreadable);
     return 0;
 }

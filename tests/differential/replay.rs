@@ -362,9 +362,10 @@ fn make_raw_inspection(m: &mut Iec61850Monitor, args: &mut Arguments, line: &mut
             put_frame(line, &frame);
             m.inspect_sv(&frame)
         }
+        // The Rust has no entry for raw frames, so none of its results stands beside this error: the frame is not allowed.
         Err(error) => {
             put_error(line, error);
-            InspectResult::clean(SOURCE_IEC61850_SV)
+            InspectResult { allowed: false, ..InspectResult::clean(SOURCE_IEC61850_SV) }
         }
     };
     line.extend_from_slice(b" result ");

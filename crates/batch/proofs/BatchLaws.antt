@@ -1,25 +1,18 @@
 -- Laws of many SV frames in one call: how far the records reach, and one more frame.
 use Prim.Native.Nat.{ℕ, zero, suc, _+_, _-_, _*_, _≤_, _<_}
-use mathlib.Core.List.{List, foldl}
+use mathlib.Core.List.{List}
 use mathlib.Core.Path.{_≡_, refl, ap, _∙_}
 use native.Mathlib.Numerals.{add-one}
 use native.Mathlib.Omega.{arith}
 use lib.ListN.{length, take, drop}
-use Rattle.records.specs.declared.frame.SvFrame.{SvFrame}
-use Rattle.records.specs.declared.result.Pushed.{Pushed}
-use Rattle.records.specs.Alert.{sourceSv}
-use Rattle.records.specs.Counter.{saturated}
 use Rattle.records.specs.Name.{octetAt, overwritten}
-use Rattle.records.specs.Result.{cleanResult}
-use Rattle.wire.specs.SvRecord.{svFrameOf}
 use Rattle.records.proofs.NameLaws.{length-overwritten}
-use Rattle.inspection.specs.declared.report.Noted.{Noted}
-use Rattle.inspection.specs.declared.monitor.Iec61850Monitor.{Iec61850Monitor}
+use Rattle.monitor.specs.Monitor.{Monitor}
+use Rattle.monitor.specs.Parts.{After}
+use Rattle.inspection.specs.InspectSv.{inspectSv}
+use Rattle.inspection.specs.Report.{withVerdict}
+use Rattle.lent.specs.Sv.{svFrameOf}
 use Rattle.batch.specs.Batch.{batchCount, frameAt, svAfter, svVerdicts}
-use Rattle.inspection.specs.InspectSv.{inspectSv, svBinding}
-use Rattle.inspection.specs.Monitor.{mmsTotalInspected, gooseTotalInspected, withTotals, withAlerts}
-use Rattle.inspection.specs.Report.{Finding, ended, reportedNext, notedOf}
-use Rattle.inspection.proofs.StageLaws.{sv-inspected, noted-after, noted-verdict}
 
 -- the record of a frame that is inspected lies within the octets
 module _ (frames verdicts : ℕ) {i n : ℕ} (e : n ≡ batchCount frames verdicts) (h : i < n) where
@@ -32,16 +25,16 @@ pub all-passed : {i n count : ℕ} → i ≤ n → n ≤ i → n ≡ count → i
 all-passed a b e = omega arith
 
 -- a record as the code cuts it out
-module _ (frames : List ℕ) (i : ℕ) where
-  abbrev cut : List ℕ
-  cut = take (i * 160 + 160 - i * 160) (drop (i * 160) frames)
+abbrev pub cut : List ℕ → ℕ → List ℕ
+cut frames i = take (i * 160 + 160 - i * 160) (drop (i * 160) frames)
 
-  pub cut-frame : {f : SvFrame} → f ≡ svFrameOf cut → f ≡ frameAt frames i
-  cut-frame e =
-      let h : i * 160 + 160 - i * 160 ≡ 160 = omega arith in
-      e ∙ ap (λ (n : ℕ). svFrameOf (take n (drop (i * 160) frames))) h
+cut-length : (i : ℕ) → i * 160 + 160 - i * 160 ≡ 160
+cut-length i = omega arith
 
-module _ (m : Iec61850Monitor) (frames : List ℕ) where
+cut-frame : (frames : List ℕ) (i : ℕ) → svFrameOf (cut frames i) ≡ frameAt frames i
+cut-frame frames i = ap (λ (n : ℕ). svFrameOf (take n (drop (i * 160) frames))) (cut-length i)
+
+module _ (m : Monitor) (frames : List ℕ) where
   pub none-after : m ≡ svAfter m frames 0
   unfolding svAfter
   none-after = refl
@@ -58,29 +51,20 @@ module _ (m : Iec61850Monitor) (frames : List ℕ) where
 
   -- one more frame, inspected on the monitor that the ones before it left
   module _
-      (n : ℕ) {before : Iec61850Monitor} {f : SvFrame} (after : Iec61850Monitor) (findings : List Finding) {total : ℕ} {q : Noted}
+      (n : ℕ) {before after : Monitor} {verdict : List ℕ}
       (a : before ≡ svAfter m frames n)
-      (g : f ≡ frameAt frames n)
-      (t : total ≡ saturated (before .totals .«sv_total_inspected»))
-      (e : ended after findings ≡ svBinding (withTotals before (mmsTotalInspected before) (gooseTotalInspected before) total (before .totals .alerts)) f)
-      (r :
-      q
-      ≡ notedOf
-      (foldl (reportedNext sourceSv (f .«smp_cnt») (f .«timestamp_us»)) (record { result = cleanResult sourceSv; counters = after .totals .alerts }) findings))
+      (e : record { monitor = after; answer = verdict } ≡ withVerdict (inspectSv before (svFrameOf (cut frames n))))
     where
-      abbrev pushes : Pushed
-      pushes = foldl (reportedNext sourceSv (f .«smp_cnt») (f .«timestamp_us»)) (record { result = cleanResult sourceSv; counters = after .totals .alerts }) findings
+      inspected : record { monitor = after; answer = verdict } ≡ withVerdict (inspectSv (svAfter m frames n) (frameAt frames n))
+      inspected = e ∙ (λ i. withVerdict (inspectSv (a i) (cut-frame frames n i)))
 
-      inspected : record { monitor = withAlerts after (pushes .counters); result = pushes .result } ≡ inspectSv (svAfter m frames n) (frameAt frames n)
-      inspected = sv-inspected before f after findings t e refl ∙ (λ i. inspectSv (a i) (g i))
-
-      pub after-more : withAlerts after (q .counters) ≡ svAfter m frames (n + 1)
+      pub after-more : after ≡ svAfter m frames (n + 1)
       unfolding svAfter
-      after-more = rw add-one (noted-after after r inspected)
+      after-more = rw add-one (ap (λ (x : After (List ℕ)). x .monitor) inspected)
 
       pub verdicts-more :
           (octets : List ℕ) {verdicts : List ℕ}
           → verdicts ≡ svVerdicts m frames octets n
-          → overwritten verdicts (n * 8) (octetAt (q .verdict)) 8 ≡ svVerdicts m frames octets (n + 1)
+          → overwritten verdicts (n * 8) (octetAt verdict) 8 ≡ svVerdicts m frames octets (n + 1)
       unfolding svVerdicts
-      verdicts-more octets v = rw add-one (λ i. overwritten (v i) (n * 8) (octetAt (noted-verdict after r inspected i)) 8)
+      verdicts-more octets v = rw add-one (λ i. overwritten (v i) (n * 8) (octetAt (inspected i .answer)) 8)

@@ -1,13 +1,13 @@
 -- Many SV frames in one call: the monitor after them, and the verdicts on them.
 use Prim.Native.Nat.{ℕ, zero, suc, _*_, _/_, min}
 use mathlib.Core.List.{List}
-use lib.ListN.{take, drop}
+use lib.ListN.{length, take, drop}
 use Rattle.records.specs.declared.frame.SvFrame.{SvFrame}
 use Rattle.records.specs.Name.{octetAt, overwritten}
 use Rattle.records.specs.Verdict.{verdictOf}
-use Rattle.wire.specs.SvRecord.{svFrameOf}
-use Rattle.inspection.specs.declared.monitor.Iec61850Monitor.{Iec61850Monitor}
+use Rattle.monitor.specs.Monitor.{Monitor}
 use Rattle.inspection.specs.InspectSv.{inspectSv}
+use Rattle.lent.specs.Sv.{svFrameOf}
 
 -- how many frames are inspected: whole records of 160 octets, with 8 octets for the verdict of each
 unfoldable pub batchCount : ℕ → ℕ → ℕ
@@ -18,13 +18,24 @@ abbrev pub frameAt : List ℕ → ℕ → SvFrame
 frameAt frames k = svFrameOf (take 160 (drop (k * 160) frames))
 
 -- the monitor after the first n frames
-unfoldable pub svAfter : Iec61850Monitor → List ℕ → ℕ → Iec61850Monitor
+unfoldable pub svAfter : Monitor → List ℕ → ℕ → Monitor
 svAfter m frames zero = m
 svAfter m frames (suc n) = inspectSv (svAfter m frames n) (frameAt frames n) .monitor
 
 -- octets with the verdicts on the first n frames in their places
-unfoldable pub svVerdicts : Iec61850Monitor → List ℕ → List ℕ → ℕ → List ℕ
+unfoldable pub svVerdicts : Monitor → List ℕ → List ℕ → ℕ → List ℕ
 svVerdicts m frames octets zero = octets
 svVerdicts m frames octets (suc n) =
-    overwritten (svVerdicts m frames octets n) (n * 8)
-    (octetAt (verdictOf (inspectSv (svAfter m frames n) (frameAt frames n) .result))) 8
+    overwritten (svVerdicts m frames octets n) (n * 8) (octetAt (verdictOf (inspectSv (svAfter m frames n) (frameAt frames n) .answer))) 8
+
+-- what a batch leaves: the monitor, the octets of the verdicts, and how many frames were inspected
+pub record SvBatch : Type 0 where
+  pub monitor : Monitor
+  pub verdicts : List ℕ
+  pub count : ℕ
+
+abbrev pub svBatchOf : Monitor → List ℕ → List ℕ → ℕ → SvBatch
+svBatchOf m frames octets n = record { monitor = svAfter m frames n; verdicts = svVerdicts m frames octets n; count = n }
+
+abbrev pub svBatch : Monitor → List ℕ → List ℕ → SvBatch
+svBatch m frames octets = svBatchOf m frames octets (batchCount (length frames) (length octets))

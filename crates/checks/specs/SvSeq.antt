@@ -38,6 +38,14 @@ outcomeNumber (ForwardGap gap) = 2
 outcomeNumber CycleWrap = 3
 outcomeNumber (SuspiciousSmpGap gap) = 4
 
+-- and the gap
+abbrev pub outcomeGap : SvSeqOutcome → ℕ
+outcomeGap FirstSeen = 0
+outcomeGap Replay = 0
+outcomeGap (ForwardGap gap) = gap
+outcomeGap CycleWrap = 0
+outcomeGap (SuspiciousSmpGap gap) = gap
+
 -- whether an outcome is replay
 unfoldable pub isReplay : SvSeqOutcome → Bool
 isReplay o = eqb (outcomeNumber o) (outcomeNumber Replay)

@@ -2,7 +2,7 @@
 // changed: a table by name, whose numbers are the kinds, 1 for GOOSE and 0 for SV. Entries are not aged: a slot in use has rank 0.
 ghost use mathlib.Core.Path.{_≡_};
 ghost use lib.ListN.{length};
-ghost use Rattle.checks.specs.Reservation.{boundAt, cbChecked, placeFor, takenAt, reserved, ownedSlot, freedSlot, allFreed, released};
+ghost use Rattle.checks.specs.Reservation.{boundAt, cbChecked, placeFor, takenAt, reserved, ownedSlot, allFreed, released};
 use records::search::Found;
 use tables::column::set_word;
 use tables::column::word;

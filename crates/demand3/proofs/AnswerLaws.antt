@@ -10,9 +10,10 @@ use Rattle.records.specs.declared.alert.CodedAlert.{CodedAlert}
 use Rattle.records.specs.declared.result.Pushed.{Pushed}
 use Rattle.records.specs.Alert.{denies, codeNumber, alertOf}
 use Rattle.records.specs.Result.{cleanResult, allowedWith, withAlert, pushed}
-use Rattle.demand3.specs.Demand3.{Answer, answerOf}
-use Rattle.inspection.specs.Report.{Finding, Checked, reportedNext, reported}
+use Rattle.monitor.specs.Totals.{alertCounters}
+use Rattle.inspection.specs.Report.{Finding, Checked, reportedNext, alertsPushed, reported}
 use Rattle.inspection.proofs.ReportLaws.{slots-more}
+use Rattle.demand3.specs.Demand3.{Answer, answerOf}
 
 -- an answer with the findings behind it
 abbrev pub answerFrom : Bool → List ℕ → List Finding → Answer
@@ -42,6 +43,6 @@ module _ (source sourceNumber time : ℕ) where
       answer-reported q rest (rw full (length-set (r .alerts) (r .«alert_count») _ ∙ size)) (rw full (omega arith))
       ∙ rw (full, slots-more code (r .alerts) (r .«alert_count») _ (omega arith))
 
-  pub reported-answer : (c : Checked) → length (c .findings) ≤ 4 → answerOf (reported source sourceNumber time c .result) ≡ answerFrom true [] (c .findings)
-  unfolding reported cleanResult
-  reported-answer c h = answer-reported (record { result = cleanResult source; counters = c .monitor .totals .alerts }) (c .findings) refl (omega arith)
+  pub reported-answer : (c : Checked) → length (c .answer) ≤ 4 → answerOf (reported source sourceNumber time c .answer) ≡ answerFrom true [] (c .answer)
+  unfolding reported alertsPushed cleanResult
+  reported-answer c h = answer-reported (record { result = cleanResult source; counters = alertCounters (c .monitor) }) (c .answer) refl (omega arith)

@@ -1,46 +1,45 @@
 -- Demand 3 holds: the tables answer as the remembered lists, and unequal lists are distinguished, streams first and then clocks.
-use Prim.Native.Nat.{ℕ, suc, _+_, _≤_, _<_}
+use Prim.Native.Nat.{ℕ, suc, _≤_, _<_}
 use mathlib.Core.Bool.{Bool, true, false, cond}
 use mathlib.Core.List.{List, [], _∷_, _++_, foldl}
 use mathlib.Core.Logic.{_≢_}
 use mathlib.Core.Path.{_≡_, refl, sym, ap, _∙_}
 use native.Mathlib.Decide.{ℕ-discrete}
 use native.Mathlib.Omega.{arith}
-use lib.ListN.{length, replicate, length-append, length-take}
+use lib.ListN.{length, replicate, length-append}
 use Rattle.records.specs.declared.frame.GooseFrame.{GooseFrame}
 use Rattle.records.specs.declared.frame.SvFrame.{SvFrame}
 use Rattle.records.specs.Decide.{decidePair, decideList}
-use Rattle.records.specs.Legal.{LegalGoose, LegalSv, OctetArray}
-use Rattle.records.specs.Name.{validLen, nameOf, padded}
+use Rattle.records.specs.Legal.{OctetArray}
+use Rattle.records.specs.Name.{padded}
 use Rattle.records.specs.Remembered.{lookup}
 use Rattle.records.proofs.Booleans.{and-false}
 use Rattle.records.proofs.Distinguish.{outputs-last, answer, Legal as LegalFrame, Distinguished as ListsDistinguished, distinguish-histories}
 use Rattle.records.proofs.KeyedLists.{All}
 use Rattle.records.proofs.NameLaws.{name-padded}
-use Rattle.records.proofs.OctetLaws.{octets-take, array-zeros, array-padded}
-use Rattle.inspection.specs.declared.monitor.Iec61850Monitor.{Iec61850Monitor}
-use Rattle.inspection.specs.declared.settings.Settings.{Settings}
+use Rattle.records.proofs.OctetLaws.{array-zeros, array-padded}
+use Rattle.tables.proofs.KeyLaws.{legal-name}
+use Rattle.checks.specs.SvSeq.{svOutcome}
+use Rattle.checks.specs.TimeField.{hasClock, clockAlert}
+use Rattle.monitor.specs.Monitor.{Monitor}
+use Rattle.monitor.specs.Settings.{blockTestFrames, timeMaxForwardJump, svMaxSmpCntGap}
 use Rattle.inspection.specs.Address.{addressOf}
 use Rattle.inspection.specs.Calls.{Setting, configuredMonitor}
-use Rattle.demand3.specs.Demand3.{Inspection, goose, sv, Legal, afterHistory, answers, Answer, svReaches, gooseReaches, ifClock, clockReaches, reaching, RememberedLists, rememberedLists, JumpLimit, Premises, Distinguished, SameAnswers, EqualLists, Demand3}
-use Rattle.inspection.specs.GooseSeq.{gooseKey, gooseNumbers}
-use Rattle.inspection.specs.InspectGoose.{blocked, goosePair}
-use Rattle.inspection.specs.InspectSv.{countFindings, svPair}
+use Rattle.inspection.specs.InspectGoose.{controlBlock, gooseNumbers, goosePair, blocked}
+use Rattle.inspection.specs.InspectSv.{svPair, countFindings}
 use Rattle.inspection.specs.Report.{Finding, clockFindings}
-use Rattle.inspection.specs.SvSeq.{svOutcome}
-use Rattle.inspection.specs.TimeField.{hasClock, clockAlert}
 use Rattle.inspection.proofs.AddressLaws.{addressOctets, address-octets, address-back, address-fits}
-use Rattle.demand3.proofs.Observables.{Name, Numbers, svAnswer, svObservable, gooseAnswer, gooseObservable, clockObservable}
-use Rattle.demand3.proofs.PlainMonitor.{Plain, left as leftBy, answers-from}
-use Rattle.demand3.proofs.RememberedLaws.{names≟, pairs≟, touchSv, touchGoose, touchClock, listsAfter, moved, listAnswer, listAnswers, remembered-lists, remembers-history, answers-lists, remembers-new}
+use Rattle.demand3.specs.Demand3.{Inspection, goose, sv, Legal, afterHistory, answers, Answer, svReaches, gooseStreamOf, gooseReaches, ifClock}
+use Rattle.demand3.specs.Demand3.{clockReaches, reaching, RememberedLists, rememberedLists}
+use Rattle.demand3.specs.Demand3.{JumpLimit, Premises, Distinguished, SameAnswers, EqualLists, Demand3}
 use Rattle.demand3.proofs.AnswerLaws.{answerFrom, length-codes}
-use Rattle.inspection.proofs.SettingLaws.{configured-untouched}
+use Rattle.demand3.proofs.Observables.{Numbers, svAnswer, svObservable, gooseAnswer, gooseObservable, clockObservable}
+use Rattle.demand3.proofs.PlainMonitor.{Plain, left as leftBy, answers-from}
+use Rattle.demand3.proofs.RememberedLaws.{names≟, pairs≟, touchSv, touchGoose, touchClock, listsAfter, moved, listAnswer, listAnswers}
+use Rattle.demand3.proofs.RememberedLaws.{remembered-lists, svid-legal, LegalOne, remembers-history, answers-lists, remembers-new}
+use Rattle.demand3.proofs.Remembering.{configured-tables, configured-free}
 
 -- ---- inspections made of frames of keys
-
-pub LegalOne : Inspection → Type 0
-LegalOne (goose f) = LegalGoose f
-LegalOne (sv f) = LegalSv f
 
 pub legal-cons : (x : Inspection) (h : List Inspection) → LegalOne x → Legal h → Legal (x ∷ h)
 unfolding LegalOne
@@ -72,28 +71,30 @@ module _ {K I : Type 0} {P : K × I → Type 0} (make : (x : K × I) → P x →
   legal-made g [] a x p = legal-cons (make x p) [] (g x p) tt
   legal-made g (y ∷ xs) a x p = legal-cons (make y (a .0)) (withLast make xs (a .1) x p) (g y (a .0)) (legal-made g xs (a .1) x p)
 
-  pub reaching-made : (reaches : Inspection → List (K × I)) → ((x : K × I) (p : P x) → reaches (make x p) ≡ x ∷ []) → (xs : List (K × I)) (a : All P xs) → reaching reaches (made make xs a) ≡ xs
+  pub reaching-made : (reaches : Inspection → List (K × I)) → ((x : K × I) (p : P x) → reaches (make x p) ≡ x ∷ [])
+      → (xs : List (K × I)) (a : All P xs) → reaching reaches (made make xs a) ≡ xs
   unfolding made
   reaching-made reaches e [] a = refl
   reaching-made reaches e (x ∷ xs) a = rw (e x (a .0), reaching-made reaches e xs (a .1))
 
 -- ---- lists that further inspections tell apart
 
-pub record Further (s : Settings) (l l′ : RememberedLists) : Type 0 where
+pub record Further (m : Monitor) (l l′ : RememberedLists) : Type 0 where
   pub further : List Inspection
   pub legal : Legal further
   pub short : length further ≤ 16
-  pub unequal : listAnswers s l further ≢ listAnswers s l′ further
+  pub unequal : listAnswers m l further ≢ listAnswers m l′ further
 
-module _ {K I : Type 0} {P : K × I → Type 0} (s : Settings) (l l′ : RememberedLists) (make : (x : K × I) → P x → Inspection) (legal : (x : K × I) (p : P x) → LegalOne (make x p)) where
+module _ {K I : Type 0} {P : K × I → Type 0} (m : Monitor) (l l′ : RememberedLists) (make : (x : K × I) → P x → Inspection)
+    (legal : (x : K × I) (p : P x) → LegalOne (make x p)) where
   -- fewer than sixteen inspections, and one that is answered differently after them
   unfoldable pub further-of : (xs : List (K × I)) (a : All P xs) (x : K × I) (p : P x) → length xs < 16
-      → listAnswer s (foldl (listsAfter s) l (made make xs a)) (make x p) ≢ listAnswer s (foldl (listsAfter s) l′ (made make xs a)) (make x p) → Further s l l′
+      → listAnswer m (foldl (listsAfter m) l (made make xs a)) (make x p) ≢ listAnswer m (foldl (listsAfter m) l′ (made make xs a)) (make x p) → Further m l l′
   further-of xs a x p h d = record {
     further = withLast make xs a x p;
     legal = legal-made make legal xs a x p;
     short = rw (length-append (made make xs a) (make x p ∷ []), length-made make xs a) (omega arith);
-    unequal = λ q. d (outputs-last (listAnswer s) (listsAfter s) l l′ (made make xs a) (make x p) q);
+    unequal = λ q. d (outputs-last (listAnswer m) (listsAfter m) l l′ (made make xs a) (make x p) q);
   }
 
 -- ---- SV streams: a frame without a clock
@@ -131,33 +132,35 @@ module _ (gap : ℕ) where
     fraction = omega arith;
   }
 
-module _ (s : Settings) where
+module _ (m : Monitor) where
   abbrev pub gapOf : ℕ
-  gapOf = s .«sv_max_smp_cnt_gap»
+  gapOf = svMaxSmpCntGap m
 
   pub sv-reaches : (x : List ℕ × ℕ) (p : LegalFrame (svObservable gapOf) x) → svReaches (svInspection gapOf x p) ≡ x ∷ []
   unfolding svFrameOf svInspection
   sv-reaches x p = rw (name-padded (x .0) (p .0 .short))
 
-  pub sv-answer : (l : RememberedLists) (x : List ℕ × ℕ) (p : LegalFrame (svObservable gapOf) x) → listAnswer s l (svInspection gapOf x p) ≡ answer names≟ (svAnswer gapOf) (l .svStreams) x
+  pub sv-answer : (l : RememberedLists) (x : List ℕ × ℕ) (p : LegalFrame (svObservable gapOf) x)
+      → listAnswer m l (svInspection gapOf x p) ≡ answer names≟ (svAnswer gapOf) (l .svStreams) x
   unfolding svFrameOf svInspection hasClock
   sv-answer l x p = rw (name-padded (x .0) (p .0 .short))
 
-  unfoldable pub sv-further : (l l′ : RememberedLists) → ListsDistinguished (svObservable gapOf) 16 (l .svStreams) (l′ .svStreams) → Further s l l′
+  unfoldable pub sv-further : (l l′ : RememberedLists) → ListsDistinguished (svObservable gapOf) 16 (l .svStreams) (l′ .svStreams) → Further m l l′
   sv-further l l′ d =
-      further-of s l l′ (svInspection gapOf) (sv-frame-legal gapOf) (d .fillers) (d .legal) (d .last) (d .legal-last) (d .short)
+      further-of m l l′ (svInspection gapOf) (sv-frame-legal gapOf) (d .fillers) (d .legal) (d .last) (d .legal-last) (d .short)
       (λ q. d .differ (sym (at l) ∙ q ∙ at l′))
     where
       fillers : List Inspection
       fillers = made (svInspection gapOf) (d .fillers) (d .legal)
 
-      at : (z : RememberedLists) → listAnswer s (foldl (listsAfter s) z fillers) (svInspection gapOf (d .last) (d .legal-last))
+      at : (z : RememberedLists) → listAnswer m (foldl (listsAfter m) z fillers) (svInspection gapOf (d .last) (d .legal-last))
           ≡ answer names≟ (svAnswer gapOf) (foldl touchSv (z .svStreams) (d .fillers)) (d .last)
       at z =
-          sv-answer (foldl (listsAfter s) z fillers) (d .last) (d .legal-last)
-          ∙ ap (λ (m : List (List ℕ × ℕ)). answer names≟ (svAnswer gapOf) m (d .last))
-          (ap (λ (m : RememberedLists). m .svStreams) (moved s z fillers)
-          ∙ ap (λ (xs : List (List ℕ × ℕ)). foldl touchSv (z .svStreams) xs) (reaching-made (svInspection gapOf) svReaches sv-reaches (d .fillers) (d .legal)))
+          sv-answer (foldl (listsAfter m) z fillers) (d .last) (d .legal-last)
+          ∙ ap (λ (y : List (List ℕ × ℕ)). answer names≟ (svAnswer gapOf) y (d .last))
+          (ap (λ (y : RememberedLists). y .svStreams) (moved m z fillers)
+          ∙ ap (λ (xs : List (List ℕ × ℕ)). foldl touchSv (z .svStreams) xs)
+          (reaching-made (svInspection gapOf) svReaches sv-reaches (d .fillers) (d .legal)))
 
 -- ---- GOOSE streams: a frame without a clock, not a test
 
@@ -190,30 +193,34 @@ goose-frame-legal x p = record {
   fraction = omega arith;
 }
 
-module _ (s : Settings) where
-  pub goose-reaches : (x : (ℕ × ℕ) × (ℕ × ℕ)) (p : LegalFrame gooseObservable x) → gooseReaches s (gooseInspection x p) ≡ x ∷ []
+module _ (m : Monitor) where
+  pub goose-reaches : (x : (ℕ × ℕ) × (ℕ × ℕ)) (p : LegalFrame gooseObservable x) → gooseReaches m (gooseInspection x p) ≡ x ∷ []
   unfolding gooseFrameOf gooseInspection
-  goose-reaches x p = rw (and-false (s .«block_test_frames»), address-back (x .0 .0) (p .0 .0), name-padded (p .0 .1 .name) (p .0 .1 .named .short), p .0 .1 .hashes)
+  goose-reaches x p =
+      rw (and-false (blockTestFrames m), address-back (x .0 .0) (p .0 .0), name-padded (p .0 .1 .name) (p .0 .1 .named .short), p .0 .1 .hashes)
 
-  pub goose-answer : (l : RememberedLists) (x : (ℕ × ℕ) × (ℕ × ℕ)) (p : LegalFrame gooseObservable x) → listAnswer s l (gooseInspection x p) ≡ answer pairs≟ gooseAnswer (l .gooseStreams) x
+  pub goose-answer : (l : RememberedLists) (x : (ℕ × ℕ) × (ℕ × ℕ)) (p : LegalFrame gooseObservable x)
+      → listAnswer m l (gooseInspection x p) ≡ answer pairs≟ gooseAnswer (l .gooseStreams) x
   unfolding gooseFrameOf gooseInspection hasClock
-  goose-answer l x p = rw (and-false (s .«block_test_frames»), address-back (x .0 .0) (p .0 .0), name-padded (p .0 .1 .name) (p .0 .1 .named .short), p .0 .1 .hashes)
+  goose-answer l x p =
+      rw (and-false (blockTestFrames m), address-back (x .0 .0) (p .0 .0), name-padded (p .0 .1 .name) (p .0 .1 .named .short), p .0 .1 .hashes)
 
-  pub goose-further : (l l′ : RememberedLists) → ListsDistinguished gooseObservable 16 (l .gooseStreams) (l′ .gooseStreams) → Further s l l′
+  pub goose-further : (l l′ : RememberedLists) → ListsDistinguished gooseObservable 16 (l .gooseStreams) (l′ .gooseStreams) → Further m l l′
   goose-further l l′ d =
-      further-of s l l′ gooseInspection goose-frame-legal (d .fillers) (d .legal) (d .last) (d .legal-last) (d .short)
+      further-of m l l′ gooseInspection goose-frame-legal (d .fillers) (d .legal) (d .last) (d .legal-last) (d .short)
       (λ q. d .differ (sym (at l) ∙ q ∙ at l′))
     where
       fillers : List Inspection
       fillers = made gooseInspection (d .fillers) (d .legal)
 
-      at : (z : RememberedLists) → listAnswer s (foldl (listsAfter s) z fillers) (gooseInspection (d .last) (d .legal-last))
+      at : (z : RememberedLists) → listAnswer m (foldl (listsAfter m) z fillers) (gooseInspection (d .last) (d .legal-last))
           ≡ answer pairs≟ gooseAnswer (foldl touchGoose (z .gooseStreams) (d .fillers)) (d .last)
       at z =
-          goose-answer (foldl (listsAfter s) z fillers) (d .last) (d .legal-last)
-          ∙ ap (λ (m : List ((ℕ × ℕ) × (ℕ × ℕ))). answer pairs≟ gooseAnswer m (d .last))
-          (ap (λ (m : RememberedLists). m .gooseStreams) (moved s z fillers)
-          ∙ ap (λ (xs : List ((ℕ × ℕ) × (ℕ × ℕ))). foldl touchGoose (z .gooseStreams) xs) (reaching-made gooseInspection (gooseReaches s) goose-reaches (d .fillers) (d .legal)))
+          goose-answer (foldl (listsAfter m) z fillers) (d .last) (d .legal-last)
+          ∙ ap (λ (y : List ((ℕ × ℕ) × (ℕ × ℕ))). answer pairs≟ gooseAnswer y (d .last))
+          (ap (λ (y : RememberedLists). y .gooseStreams) (moved m z fillers)
+          ∙ ap (λ (xs : List ((ℕ × ℕ) × (ℕ × ℕ))). foldl touchGoose (z .gooseStreams) xs)
+          (reaching-made gooseInspection (gooseReaches m) goose-reaches (d .fillers) (d .legal)))
 
 -- ---- clocks: an SV frame of the empty name, whose stream is the same on both sides
 
@@ -230,9 +237,9 @@ clock-told false false rest e = refl
 clock-told true false rest e = absurd (one-more rest e)
 clock-told false true rest e = absurd (one-more rest (sym e))
 
-module _ (s : Settings) (range : JumpLimit (s .«time_max_forward_jump_s»)) where
+module _ (m : Monitor) (range : JumpLimit (timeMaxForwardJump m)) where
   abbrev pub limit : ℕ
-  limit = s .«time_max_forward_jump_s»
+  limit = timeMaxForwardJump m
 
   pub clockFrameOf : (x : ℕ × (ℕ × ℕ)) → LegalFrame (clockObservable limit range) x → SvFrame
   clockFrameOf x p = record {
@@ -266,23 +273,24 @@ module _ (s : Settings) (range : JumpLimit (s .«time_max_forward_jump_s»)) whe
     fraction = p .1 .1;
   }
 
-  pub clock-reaches : (x : ℕ × (ℕ × ℕ)) (p : LegalFrame (clockObservable limit range) x) → clockReaches s (clockInspection x p) ≡ x ∷ []
+  pub clock-reaches : (x : ℕ × (ℕ × ℕ)) (p : LegalFrame (clockObservable limit range) x) → clockReaches m (clockInspection x p) ≡ x ∷ []
   unfolding clockFrameOf clockInspection
   clock-reaches x p = rw (p .1 .2, address-back (x .0) (p .0))
 
   -- what is found of the stream of the empty name
   abbrev pub unnamed : List (List ℕ × ℕ) → List Finding
-  unnamed l = countFindings (s .«sv_max_smp_cnt_gap») [] (svOutcome (lookup names≟ [] l) 0)
+  unnamed l = countFindings (svMaxSmpCntGap m) [] (svOutcome (lookup names≟ [] l) 0)
 
   pub clock-answer : (l : RememberedLists) (x : ℕ × (ℕ × ℕ)) (p : LegalFrame (clockObservable limit range) x)
-      → listAnswer s l (clockInspection x p) ≡ answerFrom true [] (clockFindings (answer ℕ-discrete (clockAlert limit) (l .clocks) x) ++ unnamed (l .svStreams))
+      → listAnswer m l (clockInspection x p) ≡ answerFrom true [] (clockFindings (answer ℕ-discrete (clockAlert limit) (l .clocks) x) ++ unnamed (l .svStreams))
   unfolding clockFrameOf clockInspection
   clock-answer l x p = rw (p .1 .2, address-back (x .0) (p .0))
 
-  pub clock-further : (l l′ : RememberedLists) → l .svStreams ≡ l′ .svStreams → ListsDistinguished (clockObservable limit range) 16 (l .clocks) (l′ .clocks) → Further s l l′
+  pub clock-further : (l l′ : RememberedLists) → l .svStreams ≡ l′ .svStreams
+      → ListsDistinguished (clockObservable limit range) 16 (l .clocks) (l′ .clocks) → Further m l l′
   clock-further l l′ e d =
-      further-of s l l′ clockInspection clock-frame-legal (d .fillers) (d .legal) (d .last) (d .legal-last) (d .short)
-      (λ q. d .differ (clock-told _ _ (unnamed (streams l′)) (ap (λ (m : List (List ℕ × ℕ)). answerFrom true [] (clockFindings (alert l) ++ unnamed m)) (sym same) ∙ sym (at l) ∙ q ∙ at l′)))
+      further-of m l l′ clockInspection clock-frame-legal (d .fillers) (d .legal) (d .last) (d .legal-last) (d .short)
+      (λ q. d .differ (clock-told _ _ (unnamed (streams l′)) (ap (found (alert l)) (sym same) ∙ sym (at l) ∙ q ∙ at l′)))
     where
       fillers : List Inspection
       fillers = made clockInspection (d .fillers) (d .legal)
@@ -291,52 +299,46 @@ module _ (s : Settings) (range : JumpLimit (s .«time_max_forward_jump_s»)) whe
       streams z = foldl touchSv (z .svStreams) (reaching svReaches fillers)
 
       same : streams l ≡ streams l′
-      same = ap (λ (m : List (List ℕ × ℕ)). foldl touchSv m (reaching svReaches fillers)) e
+      same = ap (λ (y : List (List ℕ × ℕ)). foldl touchSv y (reaching svReaches fillers)) e
+
+      -- what is answered, by the clock's alert and the streams
+      found : Bool → List (List ℕ × ℕ) → Answer
+      found b y = answerFrom true [] (clockFindings b ++ unnamed y)
 
       alert : RememberedLists → Bool
       alert z = answer ℕ-discrete (clockAlert limit) (foldl touchClock (z .clocks) (d .fillers)) (d .last)
 
-      at : (z : RememberedLists) → listAnswer s (foldl (listsAfter s) z fillers) (clockInspection (d .last) (d .legal-last))
-          ≡ answerFrom true [] (clockFindings (alert z) ++ unnamed (streams z))
+      at : (z : RememberedLists) → listAnswer m (foldl (listsAfter m) z fillers) (clockInspection (d .last) (d .legal-last))
+          ≡ found (alert z) (streams z)
       at z =
-          clock-answer (foldl (listsAfter s) z fillers) (d .last) (d .legal-last)
-          ∙ ap (λ (m : RememberedLists). answerFrom true [] (clockFindings (answer ℕ-discrete (clockAlert limit) (m .clocks) (d .last)) ++ unnamed (m .svStreams))) (moved s z fillers)
-          ∙ ap (λ (xs : List (ℕ × (ℕ × ℕ))). answerFrom true [] (clockFindings (answer ℕ-discrete (clockAlert limit) (foldl touchClock (z .clocks) xs) (d .last)) ++ unnamed (streams z)))
-          (reaching-made clockInspection (clockReaches s) clock-reaches (d .fillers) (d .legal))
+          clock-answer (foldl (listsAfter m) z fillers) (d .last) (d .legal-last)
+          ∙ ap (λ (y : RememberedLists). found (answer ℕ-discrete (clockAlert limit) (y .clocks) (d .last)) (y .svStreams)) (moved m z fillers)
+          ∙ ap (λ (xs : List (ℕ × (ℕ × ℕ))). found (answer ℕ-discrete (clockAlert limit) (foldl touchClock (z .clocks) xs) (d .last)) (streams z))
+          (reaching-made clockInspection (clockReaches m) clock-reaches (d .fillers) (d .legal))
 
 -- ---- what legal histories leave
 
--- the name that a frame states
-pub stated-name : (octets : List ℕ) (len : ℕ) → OctetArray 64 octets → Name (nameOf octets len)
-stated-name octets len a = record { short = simp length-take (omega arith); octets = octets-take octets (a .octets) (validLen len) }
-
-module _ (s : Settings) where
-  unfoldable pub sv-keys : (h : List Inspection) → Legal h → All (LegalFrame (svObservable (s .«sv_max_smp_cnt_gap»))) (reaching svReaches h)
+module _ (m : Monitor) where
+  unfoldable pub sv-keys : (h : List Inspection) → Legal h → All (LegalFrame (svObservable (svMaxSmpCntGap m))) (reaching svReaches h)
   sv-keys [] g = tt
   sv-keys (goose f ∷ h) g = sv-keys h (g .1)
-  sv-keys (sv f ∷ h) g = (
-    (
-      stated-name (f .svid) (f .«svid_len») (g .0 .svid-octets),
-      g .0 .count,
-    ),
-    sv-keys h (g .1),
-  )
+  sv-keys (sv f ∷ h) g = ((svid-legal f (g .0), g .0 .count), sv-keys h (g .1))
 
-  pub goose-keys : (h : List Inspection) → Legal h → All (LegalFrame gooseObservable) (reaching (gooseReaches s) h)
+  pub goose-keys : (h : List Inspection) → Legal h → All (LegalFrame gooseObservable) (reaching (gooseReaches m) h)
   goose-keys [] g = tt
   goose-keys (sv f ∷ h) g = goose-keys h (g .1)
-  goose-keys (goose f ∷ h) g = go (blocked s f) (goose-keys h (g .1))
+  goose-keys (goose f ∷ h) g = go (blocked m (f .test)) (goose-keys h (g .1))
     where
-      go : (b : Bool) → All (LegalFrame gooseObservable) (reaching (gooseReaches s) h)
-          → All (LegalFrame gooseObservable) (cond b [] ((gooseKey f, gooseNumbers f) ∷ []) ++ reaching (gooseReaches s) h)
+      go : (b : Bool) → All (LegalFrame gooseObservable) (reaching (gooseReaches m) h)
+          → All (LegalFrame gooseObservable) (cond b [] ((gooseStreamOf f, gooseNumbers f) ∷ []) ++ reaching (gooseReaches m) h)
       go true a = a
       go false a = (
         (
           (
             address-fits (f .«src_mac») (g .0 .source),
             record {
-              name = nameOf (f .«go_cb_ref») (f .«go_cb_ref_len»);
-              named = stated-name (f .«go_cb_ref») (f .«go_cb_ref_len») (g .0 .control-block-octets);
+              name = controlBlock f;
+              named = legal-name 0 (f .«go_cb_ref») (f .«go_cb_ref_len») (omega arith) (g .0 .control-block-octets);
               hashes = refl;
             },
           ),
@@ -345,46 +347,52 @@ module _ (s : Settings) where
         a,
       )
 
-module _ (s : Settings) (range : JumpLimit (s .«time_max_forward_jump_s»)) where
+module _ (m : Monitor) (range : JumpLimit (timeMaxForwardJump m)) where
   abbrev pub Clocks : List (ℕ × (ℕ × ℕ)) → Type 0
-  Clocks = All (LegalFrame (clockObservable (s .«time_max_forward_jump_s») range))
+  Clocks = All (LegalFrame (clockObservable (timeMaxForwardJump m) range))
 
-  pub if-clock : (mac : List ℕ) (pair : ℕ × ℕ) → OctetArray 6 mac → Numbers pair → (rest : List (ℕ × (ℕ × ℕ))) → Clocks rest → Clocks (ifClock (addressOf mac) pair ++ rest)
+  pub if-clock : (mac : List ℕ) (pair : ℕ × ℕ) → OctetArray 6 mac → Numbers pair → (rest : List (ℕ × (ℕ × ℕ))) → Clocks rest
+      → Clocks (ifClock (addressOf mac) pair ++ rest)
   if-clock mac pair g n rest a = go (hasClock pair) refl
     where
       go : (b : Bool) → hasClock pair ≡ b → Clocks (cond b ((addressOf mac, pair) ∷ []) [] ++ rest)
       go true e = ((address-fits mac g, (n .0, n .1, e)), a)
       go false e = a
 
-  pub clock-keys : (h : List Inspection) → Legal h → Clocks (reaching (clockReaches s) h)
+  pub clock-keys : (h : List Inspection) → Legal h → Clocks (reaching (clockReaches m) h)
   clock-keys [] g = tt
   clock-keys (sv f ∷ h) g = if-clock (f .«src_mac») (svPair f) (g .0 .source) (g .0 .seconds, g .0 .fraction) _ (clock-keys h (g .1))
-  clock-keys (goose f ∷ h) g = go (blocked s f) (clock-keys h (g .1))
+  clock-keys (goose f ∷ h) g = go (blocked m (f .test)) (clock-keys h (g .1))
     where
-      go : (b : Bool) → Clocks (reaching (clockReaches s) h) → Clocks (cond b [] (ifClock (addressOf (f .«src_mac»)) (goosePair f)) ++ reaching (clockReaches s) h)
+      go : (b : Bool) → Clocks (reaching (clockReaches m) h)
+          → Clocks (cond b [] (ifClock (addressOf (f .«src_mac»)) (goosePair f)) ++ reaching (clockReaches m) h)
       go true a = a
       go false a = if-clock (f .«src_mac») (goosePair f) (g .0 .source) (g .0 .seconds, g .0 .fraction) _ a
 
   -- unequal remembered lists: the first of the three that differ, SV streams, GOOSE streams, clocks
-  unfoldable pub further-lists : (h h′ : List Inspection) → Legal h → Legal h′ → rememberedLists s h ≢ rememberedLists s h′ → Further s (rememberedLists s h) (rememberedLists s h′)
+  unfoldable pub further-lists : (h h′ : List Inspection) → Legal h → Legal h′ → rememberedLists m h ≢ rememberedLists m h′
+      → Further m (rememberedLists m h) (rememberedLists m h′)
   further-lists h h′ g g′ n =
       go (decideList (decidePair names≟ ℕ-discrete) (l .svStreams) (l′ .svStreams))
       (decideList (decidePair pairs≟ pairs≟) (l .gooseStreams) (l′ .gooseStreams))
     where
       l : RememberedLists
-      l = rememberedLists s h
+      l = rememberedLists m h
 
       l′ : RememberedLists
-      l′ = rememberedLists s h′
+      l′ = rememberedLists m h′
 
-      go : Dec (l .svStreams ≡ l′ .svStreams) → Dec (l .gooseStreams ≡ l′ .gooseStreams) → Further s l l′
+      go : Dec (l .svStreams ≡ l′ .svStreams) → Dec (l .gooseStreams ≡ l′ .gooseStreams) → Further m l l′
       go (no d) b =
-          sv-further s l l′ (distinguish-histories (svObservable (s .«sv_max_smp_cnt_gap»)) (reaching svReaches h) (reaching svReaches h′) (sv-keys s h g) (sv-keys s h′ g′) d)
+          sv-further m l l′
+          (distinguish-histories (svObservable (svMaxSmpCntGap m)) (reaching svReaches h) (reaching svReaches h′) (sv-keys m h g) (sv-keys m h′ g′) d)
       go (yes e) (no d) =
-          goose-further s l l′ (distinguish-histories gooseObservable (reaching (gooseReaches s) h) (reaching (gooseReaches s) h′) (goose-keys s h g) (goose-keys s h′ g′) d)
+          goose-further m l l′
+          (distinguish-histories gooseObservable (reaching (gooseReaches m) h) (reaching (gooseReaches m) h′) (goose-keys m h g) (goose-keys m h′ g′) d)
       go (yes e) (yes e′) =
-          clock-further s range l l′ e
-          (distinguish-histories (clockObservable (s .«time_max_forward_jump_s») range) (reaching (clockReaches s) h) (reaching (clockReaches s) h′) (clock-keys h g) (clock-keys h′ g′)
+          clock-further m range l l′ e
+          (distinguish-histories (clockObservable (timeMaxForwardJump m) range) (reaching (clockReaches m) h) (reaching (clockReaches m) h′)
+          (clock-keys h g) (clock-keys h′ g′)
           (λ q. n (λ i. record { svStreams = e i; gooseStreams = e′ i; clocks = q i })))
 
 -- ---- the claim
@@ -402,48 +410,43 @@ lists≟ l l′ =
     go (yes a) (yes b) (no n) = no (λ e. n (ap (λ (z : RememberedLists). z .clocks) e))
 
 module _ (strict : Bool) (settings : List Setting) (p : Premises (configuredMonitor strict settings)) where
-  abbrev pub monitor : Iec61850Monitor
+  abbrev pub monitor : Monitor
   monitor = configuredMonitor strict settings
 
-  pub plain : Plain monitor
-  plain = record { premises = p; free = configured-untouched strict settings .reservations }
+  pub plain : Plain monitor monitor
+  plain = record { settings = refl; premises = p; free = configured-free strict settings }
 
   -- the answers after a history are those of its remembered lists
-  pub answers-remembered : (h further : List Inspection) → length h + length further ≤ 4294967295
-      → answers (afterHistory monitor h) further ≡ listAnswers (monitor .settings) (rememberedLists (monitor .settings) h) further
-  answers-remembered h further w =
+  pub answers-remembered : (h further : List Inspection) → Legal h → Legal further
+      → answers (afterHistory monitor h) further ≡ listAnswers monitor (rememberedLists monitor h) further
+  answers-remembered h further g k =
       let r = leftBy plain h in
-      let t = configured-untouched strict settings .tables in
       answers-from (r .plain) further
-      ∙ rw (r .settings, r .tables, t, ← remembered-lists (monitor .settings) h)
-      (answers-lists (monitor .settings) (remembers-history (monitor .settings) remembers-new h (omega arith)) further (omega arith))
+      ∙ rw (r .tables, configured-tables strict settings, ← remembered-lists monitor h)
+      (answers-lists monitor (remembers-history monitor remembers-new h g) further k)
 
-  unfoldable pub distinguished : (h h′ : List Inspection) → Legal h → Legal h′ → length h ≤ 4000000000 → length h′ ≤ 4000000000 → ¬ EqualLists monitor h h′ → Distinguished monitor h h′
-  distinguished h h′ g g′ n n′ d =
-      let f = further-lists (monitor .settings) (p .jump-limit) h h′ g g′ d in
+  unfoldable pub distinguished : (h h′ : List Inspection) → Legal h → Legal h′ → ¬ EqualLists monitor h h′ → Distinguished monitor h h′
+  distinguished h h′ g g′ d =
+      let f = further-lists monitor (p .jump-limit) h h′ g g′ d in
       record {
         further = f .further;
         legal = f .legal;
         short = f .short;
-        within = (omega (arith, f .short), omega (arith, f .short));
-        unequal = λ q. f .unequal (sym (answers-remembered h (f .further) (omega (arith, f .short))) ∙ q ∙ answers-remembered h′ (f .further) (omega (arith, f .short)));
+        unequal = λ q. f .unequal (sym (answers-remembered h (f .further) g (f .legal)) ∙ q ∙ answers-remembered h′ (f .further) g′ (f .legal));
       }
 
 unfoldable pub demand-3 : Demand3
-demand-3 strict settings h h′ p g g′ n n′ = ((same, only (lists≟ (rememberedLists s h) (rememberedLists s h′))), distinguished strict settings p h h′ g g′ n n′)
+demand-3 strict settings h h′ p g g′ = ((same, only (lists≟ (rememberedLists m h) (rememberedLists m h′))), distinguished strict settings p h h′ g g′)
   where
-    m : Iec61850Monitor
+    m : Monitor
     m = configuredMonitor strict settings
 
-    s : Settings
-    s = m .settings
-
     same : EqualLists m h h′ → SameAnswers m h h′
-    same e further a w =
-        answers-remembered strict settings p h further (w .0)
-        ∙ ap (λ (l : RememberedLists). listAnswers s l further) e
-        ∙ sym (answers-remembered strict settings p h′ further (w .1))
+    same e further k =
+        answers-remembered strict settings p h further g k
+        ∙ ap (λ (l : RememberedLists). listAnswers m l further) e
+        ∙ sym (answers-remembered strict settings p h′ further g′ k)
 
     only : Dec (EqualLists m h h′) → SameAnswers m h h′ → EqualLists m h h′
     only (yes e) a = e
-    only (no d) a = let f = distinguished strict settings p h h′ g g′ n n′ d in absurd (f .unequal (a (f .further) (f .legal) (f .within)))
+    only (no d) a = let f = distinguished strict settings p h h′ g g′ d in absurd (f .unequal (a (f .further) (f .legal)))

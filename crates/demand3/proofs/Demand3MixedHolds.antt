@@ -1,5 +1,4 @@
 -- Demand 3 holds for histories that mix raw and decoded frames.
-use Prim.Native.Nat.{_+_}
 use mathlib.Core.List.{List, [], _∷_, _++_, foldl-append, map}
 use mathlib.Core.Path.{_≡_, refl, sym, ap, _∙_}
 use Rattle.records.specs.declared.frame.SvFrame.{SvFrame}
@@ -8,16 +7,17 @@ use Rattle.wire.specs.declared.sv.Parsed.{Parsed}
 use Rattle.wire.specs.declared.sv.Parsed.the-variants.{Frame, Error}
 use Rattle.wire.specs.Sv.{svFrame}
 use Rattle.wire.proofs.SvLegal.{sv-legal}
-use Rattle.inspection.specs.declared.monitor.Iec61850Monitor.{Iec61850Monitor}
+use Rattle.monitor.specs.Monitor.{Monitor}
 use Rattle.inspection.specs.Calls.{configuredMonitor}
-use Rattle.demand3.specs.Demand3.{Inspection, goose, sv, Legal, inspect, afterHistory, Answer, answerOf, answers, SameAnswers}
-use Rattle.demand3.specs.Demand3Mixed.{Arrival, decoded, raw, LegalArrivals, ifRead, inspectionOf, inspections, arrived, afterArrivals, ifAnswered, answered, arrivalAnswers, SameArrivalAnswers, Demand3Mixed}
 use Rattle.inspection.specs.InspectSv.{rawInspected, inspectRawSv}
+use Rattle.demand3.specs.Demand3.{Inspection, goose, sv, Legal, inspect, afterHistory, Answer, answerOf, answers, SameAnswers}
+use Rattle.demand3.specs.Demand3Mixed.{Arrival, decoded, raw, LegalArrivals, ifRead, inspectionOf, inspections, arrived, afterArrivals}
+use Rattle.demand3.specs.Demand3Mixed.{ifAnswered, answered, arrivalAnswers, SameArrivalAnswers, Demand3Mixed}
 use Rattle.demand3.proofs.Demand3Holds.{legal-append, demand-3}
 
 -- ---- one arrival
 
-arrived-is : (m : Iec61850Monitor) (x : Arrival) → arrived m x ≡ afterHistory m (inspectionOf x)
+arrived-is : (m : Monitor) (x : Arrival) → arrived m x ≡ afterHistory m (inspectionOf x)
 unfolding inspectRawSv
 arrived-is m (decoded x) = refl
 arrived-is m (raw octets time) = go (svFrame octets time .answer) (svFrame octets time .frame)
@@ -26,38 +26,41 @@ arrived-is m (raw octets time) = go (svFrame octets time .answer) (svFrame octet
     go Frame f = refl
     go (Error e) f = refl
 
-answered-is : (m : Iec61850Monitor) (x : Arrival) → answered m x ≡ answers m (inspectionOf x)
+answered-is : (m : Monitor) (x : Arrival) → answered m x ≡ answers m (inspectionOf x)
 unfolding inspectRawSv
 answered-is m (decoded x) = refl
 answered-is m (raw octets time) = go (svFrame octets time .answer) (svFrame octets time .frame)
   where
-    go : (p : Parsed) (f : SvFrame) → ifAnswered (rawInspected m p f .answer) (answerOf (rawInspected m p f .result)) ≡ answers m (ifRead p f)
+    go : (p : Parsed) (f : SvFrame) → ifAnswered (rawInspected m p f .answer .answer) (answerOf (rawInspected m p f .answer .result)) ≡ answers m (ifRead p f)
     go Frame f = refl
     go (Error e) f = refl
 
 -- ---- lists of them
 
-answers-append : (m : Iec61850Monitor) (h k : List Inspection) → answers m (h ++ k) ≡ answers m h ++ answers (afterHistory m h) k
+answers-append : (m : Monitor) (h k : List Inspection) → answers m (h ++ k) ≡ answers m h ++ answers (afterHistory m h) k
 answers-append m [] k = refl
-answers-append m (x ∷ h) k = ap (λ (r : List Answer). answerOf (inspect m x .result) ∷ r) (answers-append (inspect m x .monitor) h k)
+answers-append m (x ∷ h) k = ap (λ (r : List Answer). answerOf (inspect m x .answer) ∷ r) (answers-append (inspect m x .monitor) h k)
 
-pub after-arrivals : (m : Iec61850Monitor) (a : List Arrival) → afterArrivals m a ≡ afterHistory m (inspections a)
+pub after-arrivals : (m : Monitor) (a : List Arrival) → afterArrivals m a ≡ afterHistory m (inspections a)
 after-arrivals m [] = refl
 after-arrivals m (x ∷ a) =
-    after-arrivals (arrived m x) a ∙ ap (λ (n : Iec61850Monitor). afterHistory n (inspections a)) (arrived-is m x) ∙ sym (foldl-append (λ m x. inspect m x .monitor) m (inspectionOf x) (inspections a))
+    after-arrivals (arrived m x) a
+    ∙ ap (λ (n : Monitor). afterHistory n (inspections a)) (arrived-is m x)
+    ∙ sym (foldl-append (λ m x. inspect m x .monitor) m (inspectionOf x) (inspections a))
 
-pub arrival-answers : (m : Iec61850Monitor) (a : List Arrival) → arrivalAnswers m a ≡ answers m (inspections a)
+pub arrival-answers : (m : Monitor) (a : List Arrival) → arrivalAnswers m a ≡ answers m (inspections a)
 arrival-answers m [] = refl
 arrival-answers m (x ∷ a) =
     (λ i. answered-is m x i ++ arrival-answers (arrived m x) a i)
-    ∙ ap (λ (n : Iec61850Monitor). answers m (inspectionOf x) ++ answers n (inspections a)) (arrived-is m x)
+    ∙ ap (λ (n : Monitor). answers m (inspectionOf x) ++ answers n (inspections a)) (arrived-is m x)
     ∙ sym (answers-append m (inspectionOf x) (inspections a))
 
 legal-inspections : (a : List Arrival) → LegalArrivals a → Legal (inspections a)
 legal-inspections [] g = tt
 legal-inspections (decoded x ∷ a) g = legal-append (x ∷ []) (inspections a) (g .0) (legal-inspections a (g .1))
 legal-inspections (raw octets time ∷ a) g =
-    legal-append (inspectionOf (raw octets time)) (inspections a) (go (svFrame octets time .answer) (svFrame octets time .frame) (sv-legal octets time (g .0 .0) (g .0 .1))) (legal-inspections a (g .1))
+    legal-append (inspectionOf (raw octets time)) (inspections a)
+    (go (svFrame octets time .answer) (svFrame octets time .frame) (sv-legal octets time (g .0 .0) (g .0 .1))) (legal-inspections a (g .1))
   where
     go : (p : Parsed) (f : SvFrame) → LegalSv f → Legal (ifRead p f)
     go Frame f l = (l, tt)
@@ -79,24 +82,24 @@ legal-arrivals (goose f ∷ h) g = ((g .0, tt), legal-arrivals h (g .1))
 legal-arrivals (sv f ∷ h) g = ((g .0, tt), legal-arrivals h (g .1))
 
 -- what further inspections are answered after histories, further arrivals are after arrivals, and the other way round
-module _ (m : Iec61850Monitor) (a a′ : List Arrival) where
+module _ (m : Monitor) (a a′ : List Arrival) where
   answers-after : (b further : List Arrival) → arrivalAnswers (afterArrivals m b) further ≡ answers (afterHistory m (inspections b)) (inspections further)
-  answers-after b further = arrival-answers (afterArrivals m b) further ∙ ap (λ (n : Iec61850Monitor). answers n (inspections further)) (after-arrivals m b)
+  answers-after b further = arrival-answers (afterArrivals m b) further ∙ ap (λ (n : Monitor). answers n (inspections further)) (after-arrivals m b)
 
   from-inspections : SameAnswers m (inspections a) (inspections a′) → SameArrivalAnswers m a a′
-  from-inspections e further g w w′ = answers-after a further ∙ e (inspections further) (legal-inspections further g) (w, w′) ∙ sym (answers-after a′ further)
+  from-inspections e further g = answers-after a further ∙ e (inspections further) (legal-inspections further g) ∙ sym (answers-after a′ further)
 
   to-inspections : SameArrivalAnswers m a a′ → SameAnswers m (inspections a) (inspections a′)
-  to-inspections e further g w =
+  to-inspections e further g =
       rw same-inspections at
       (sym (answers-after a (arrivals further))
-      ∙ e (arrivals further) (legal-arrivals further g) (rw same-inspections (w .0)) (rw same-inspections (w .1))
+      ∙ e (arrivals further) (legal-arrivals further g)
       ∙ answers-after a′ (arrivals further))
 
 pub demand-3-mixed : Demand3Mixed
-demand-3-mixed strict settings a a′ p g g′ n n′ =
+demand-3-mixed strict settings a a′ p g g′ =
     let m = configuredMonitor strict settings in
-    let d = demand-3 strict settings (inspections a) (inspections a′) p (legal-inspections a g) (legal-inspections a′ g′) n n′ in (
+    let d = demand-3 strict settings (inspections a) (inspections a′) p (legal-inspections a g) (legal-inspections a′ g′) in (
       after-arrivals m a,
       (λ e. from-inspections m a a′ (d .0 .0 e), λ e. d .0 .1 (to-inspections m a a′ e)),
       d .1,

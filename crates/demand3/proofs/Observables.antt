@@ -9,7 +9,7 @@ use native.Mathlib.Decide.{ℕ-discrete, decLt}
 use native.Mathlib.Omega.{arith}
 use borrow.Author.Tests.{lt-ltb, le-ltb, le-leb, lt-leb, eq-eqb, ne-eqb}
 use lib.Dec.{ltb}
-use lib.ListN.{length, getD}
+use lib.ListN.{getD}
 use Rattle.records.specs.declared.alert.AlertSeverity.the-variants.{Medium}
 use Rattle.records.specs.declared.alert.AlertCode.the-variants.{SvRateAnomaly}
 use Rattle.records.specs.Hash.{fnv1a}
@@ -18,22 +18,22 @@ use Rattle.records.specs.Remembered.{after}
 use Rattle.records.proofs.Booleans.{cond-holds}
 use Rattle.records.proofs.Distinguish.{Observable}
 use Rattle.records.proofs.OctetLaws.{octets-none}
-use Rattle.demand3.specs.Demand3.{Answer, countAfter, numbersAfter, JumpLimit}
-use Rattle.inspection.specs.GooseSeq.{replays}
+use Rattle.tables.proofs.KeyLaws.{LegalKey}
+use Rattle.checks.specs.GooseSeq.{replays}
+use Rattle.checks.specs.SvSeq.{countOutcome, svOutcome, isReplay}
+use Rattle.checks.specs.TimeField.{hasClock, earlier, clockAlert}
 use Rattle.inspection.specs.InspectGoose.{streamFindings}
 use Rattle.inspection.specs.InspectSv.{countFindings}
 use Rattle.inspection.specs.Report.{refusal}
-use Rattle.inspection.specs.SvSeq.{countOutcome, svOutcome, isReplay}
-use Rattle.inspection.specs.TimeField.{hasClock, earlier, clockAlert}
-use Rattle.demand3.proofs.RememberedLaws.{names≟, pairs≟, replayed}
+use Rattle.demand3.specs.Demand3.{Answer, countAfter, numbersAfter, JumpLimit}
 use Rattle.demand3.proofs.AnswerLaws.{answerFrom}
+use Rattle.demand3.proofs.RememberedLaws.{names≟, pairs≟, replayed}
 
 -- ---- keys that a legal frame has
 
 -- a name of at most 64 octets
-pub record Name (name : List ℕ) : Type 0 where
-  pub short : length name ≤ 64
-  pub octets : Octets name
+abbrev pub Name : List ℕ → Type 0
+Name = LegalKey 0
 
 -- an address
 abbrev pub Address : ℕ → Type 0
@@ -46,14 +46,14 @@ pub record Hash (hash : ℕ) : Type 0 where
   pub hashes : fnv1a name ≡ hash
 
 pub one-octet : (j : ℕ) → j < 256 → Name (j ∷ [])
-one-octet j h = record { short = omega arith; octets = below }
+one-octet j h = record { width = omega arith; short = omega arith; octets = below }
   where
     below : Octets (j ∷ [])
     below zero = h
     below (suc k) = omega arith
 
 pub no-name : Hash (fnv1a [])
-no-name = record { name = []; named = record { short = omega arith; octets = octets-none }; hashes = refl }
+no-name = record { name = []; named = record { width = omega arith; short = omega arith; octets = octets-none }; hashes = refl }
 
 -- ---- what may be known of a key
 
@@ -162,7 +162,8 @@ goose-told : (o o′ : Option (ℕ × ℕ)) (p : ℕ × ℕ) → replayed o p �
 unfolding firstCode
 goose-told o o′ p e e′ q = let z : _≡_ {A = ℕ} 3 0 = ap firstCode (rw (e, e′) at q) in omega arith
 
-pub goose-separating : (o o′ : Option (ℕ × ℕ)) → Holding Numbers o → Holding Numbers o′ → o ≢ o′ → (p : ℕ × ℕ) × Numbers p × (gooseAnswer o p ≢ gooseAnswer o′ p)
+pub goose-separating : (o o′ : Option (ℕ × ℕ)) → Holding Numbers o → Holding Numbers o′ → o ≢ o′
+    → (p : ℕ × ℕ) × Numbers p × (gooseAnswer o p ≢ gooseAnswer o′ p)
 goose-separating none none h h′ d = absurd (d refl)
 goose-separating none (some q) h h′ d = (q, h′, λ e. goose-told (some q) none q (goose-same q) refl (sym e))
 goose-separating (some q) none h h′ d = (q, h, goose-told (some q) none q (goose-same q) refl)
@@ -199,7 +200,13 @@ module _ (limit : ℕ) (least : 1 ≤ limit) where
   clock-same : (p : ℕ × ℕ) → clockAlert limit (some p) p ≡ false
   unfolding earlier
   clock-same p =
-      rw (eq-eqb (p .0) (p .0) refl, le-ltb (p .1) (p .1) (omega arith), le-ltb (p .0) (p .0) (omega arith), lt-ltb 0 limit (omega arith), le-ltb limit (p .0 - p .0) (omega arith))
+      rw (
+        eq-eqb (p .0) (p .0) refl,
+        le-ltb (p .1) (p .1) (omega arith),
+        le-ltb (p .0) (p .0) (omega arith),
+        lt-ltb 0 limit (omega arith),
+        le-ltb limit (p .0 - p .0) (omega arith),
+      )
 
   clock-earlier : (q p : ℕ × ℕ) → Less p q → clockAlert limit (some q) p ≡ true
   unfolding earlier
@@ -209,7 +216,12 @@ module _ (limit : ℕ) (least : 1 ≤ limit) where
   clock-ahead : (q : ℕ × ℕ) → q .0 ≡ 0 → clockAlert limit (some q) (suc limit, 0) ≡ true
   unfolding earlier
   clock-ahead q e =
-      rw (le-ltb (suc limit) (q .0) (omega arith), ne-eqb (suc limit) (q .0) (omega arith), lt-ltb 0 limit (omega arith), lt-ltb limit (suc limit - q .0) (omega arith))
+      rw (
+        le-ltb (suc limit) (q .0) (omega arith),
+        ne-eqb (suc limit) (q .0) (omega arith),
+        lt-ltb 0 limit (omega arith),
+        lt-ltb limit (suc limit - q .0) (omega arith),
+      )
 
 -- a pair that is checked and kept
 abbrev pub Pair : ℕ × ℕ → Type 0
@@ -237,7 +249,8 @@ module _ (limit : ℕ) (range : JumpLimit limit) where
       go (no a) (yes b) = ((0, 1), (omega arith, omega arith, has-fraction), clock-earlier limit (range .0) q (0, 1) (inr (omega arith, b)))
       go (no a) (no b) = ((suc limit, 0), (omega arith, omega arith, has-seconds (suc limit) 0 (omega arith)), clock-ahead limit (range .0) q (omega arith))
 
-  pub clock-separating : (o o′ : Option (ℕ × ℕ)) → Holding Pair o → Holding Pair o′ → o ≢ o′ → (p : ℕ × ℕ) × Pair p × (clockAlert limit o p ≢ clockAlert limit o′ p)
+  pub clock-separating : (o o′ : Option (ℕ × ℕ)) → Holding Pair o → Holding Pair o′ → o ≢ o′
+      → (p : ℕ × ℕ) × Pair p × (clockAlert limit o p ≢ clockAlert limit o′ p)
   clock-separating none none h h′ d = absurd (d refl)
   clock-separating none (some q) h h′ d = let r = alerting q h′ in (r .0, r .1, λ e. false≢true (e ∙ r .2))
   clock-separating (some q) none h h′ d = let r = alerting q h in (r .0, r .1, λ e. false≢true (sym e ∙ r .2))

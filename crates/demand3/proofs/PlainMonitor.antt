@@ -1,79 +1,89 @@
 -- Inspections without publishers, reservations and enforcement: what they do to the streams and clocks, and answer from them.
-use Prim.Native.Nat.{ℕ}
-use mathlib.Core.Bool.{Bool, true, false, cond}
+use Prim.Native.Nat.{ℕ, _≤_}
+use mathlib.Core.Bool.{Bool, true, false, _&&_, cond}
 use mathlib.Core.List.{List, [], _∷_, _++_, foldl}
-use mathlib.Core.Option.{Option, none, some}
-use mathlib.Core.Path.{_≡_, refl, _∙_}
+use mathlib.Core.Path.{_≡_, refl, sym, ap, _∙_, subst}
 use native.Mathlib.Omega.{arith}
 use lib.Dec.{eqb, ltb}
-use lib.ListN.{length}
+use lib.ListN.{length, getD}
 use Rattle.records.specs.declared.alert.AlertSeverity.the-variants.{Medium}
 use Rattle.records.specs.declared.alert.AlertCode.the-variants.{PolicyViolation}
 use Rattle.records.specs.declared.frame.GooseFrame.{GooseFrame}
 use Rattle.records.specs.declared.frame.SvFrame.{SvFrame}
-use Rattle.records.specs.declared.schedule.RetxSchedule.{RetxSchedule}
+use Rattle.records.specs.declared.result.InspectResult.{InspectResult}
+use Rattle.records.specs.declared.search.Found.the-variants.{Nothing}
+use Rattle.records.specs.Alert.{sourceGoose, sourceSv}
 use Rattle.records.specs.Search.{firstFrom, lastBelow}
-use Rattle.records.specs.Table.{valueOf}
 use Rattle.records.proofs.Booleans.{and-false, cond-holds}
 use Rattle.records.proofs.Distinguish.{outputs}
-use Rattle.inspection.specs.declared.goose_seq.GooseSeqTable.{GooseSeqTable}
-use Rattle.inspection.specs.declared.monitor.Iec61850Monitor.{Iec61850Monitor}
-use Rattle.inspection.specs.declared.reservation.CbChecked.{CbChecked}
-use Rattle.inspection.specs.declared.settings.Settings.{Settings}
-use Rattle.inspection.specs.declared.sv_publisher.SvPublishers.{SvPublishers}
-use Rattle.inspection.specs.declared.sv_publisher.PublisherMatch.the-variants.{NotRegistered}
-use Rattle.inspection.specs.declared.time_field.TimeChecked.{TimeChecked}
+use Rattle.records.proofs.SearchLaws.{first-same}
+use Rattle.tables.specs.Named.{hasKey, named}
+use Rattle.tables.specs.Order.{rankOf, inUse, noEntries}
+use Rattle.tables.specs.Place.{found}
+use Rattle.tables.proofs.WordTables.{rank-none}
+use Rattle.checks.specs.declared.sv_publisher.PublisherMatch.the-variants.{NotRegistered}
+use Rattle.checks.specs.GooseSeq.{GooseChecked, gooseChecked}
+use Rattle.checks.specs.Keys.{plainKey}
+use Rattle.checks.specs.Reservation.{CbChecked, boundBy, cbChecked}
+use Rattle.checks.specs.SvPublisher.{svPublisher}
+use Rattle.checks.specs.SvSeq.{SvChecked, svChecked}
+use Rattle.checks.specs.TimeField.{TimeChecked, timeChecked}
+use Rattle.monitor.specs.Monitor.{Monitor, withGooseSeq, withSvSeq, withTimeTrackers, withCbReservations, withTotals}
+use Rattle.monitor.specs.Parts.{After, after, svSeqOn, gooseSeqOn, timeFieldOn, cbOn}
+use Rattle.monitor.specs.Settings.{retxEnforce, timeMaxForwardJump, svMaxSmpCntGap}
+use Rattle.monitor.specs.Totals.{frameCounted, withAlerts, countedGoose, countedSv}
+use Rattle.inspection.specs.declared.inspect_goose.GooseNumbers.{GooseNumbers}
+use Rattle.inspection.specs.declared.report.RuleCheck.the-variants.{Rate}
 use Rattle.inspection.specs.Address.{addressOf}
-use Rattle.demand3.specs.Demand3.{Inspection, goose, sv, inspect, afterHistory, answers, Answer, answerOf, Premises}
-use Rattle.inspection.specs.GooseSeq.{gooseKey, gooseTimed, gooseStreams, gooseChecked, retxChecked, retransmission}
-use Rattle.inspection.specs.InspectGoose.{goosePair, blocked, streamFindings, gooseTest, gooseAllowed, gooseReservation, gooseTimeField, inspectGoose}
-use Rattle.inspection.specs.InspectSv.{svPair, rateFindings, countFindings, svTimeField, svReservation, svBinding, inspectSv}
-use Rattle.inspection.specs.Monitor.{countedGoose, countedSv}
+use Rattle.inspection.specs.InspectGoose.{gooseRead, goosePair, streamKey, timedNumbers, streamFindings, retransmitted, gooseTimeField}
+use Rattle.inspection.specs.InspectGoose.{gooseReservation, gooseUnknown, gooseAllowed, blocked, gooseTest, inspectGoose}
+use Rattle.inspection.specs.InspectSv.{svRead, svidOf, svPair, rateFindings, countFindings, svTimeField, svReservation, svRule, svBinding, inspectSv}
 use Rattle.inspection.specs.Report.{Finding, Checked, refusal, clockFindings, ended, reported}
-use Rattle.inspection.specs.Reservation.{reservesAt, reservationOf, cbChecked, noReservations}
-use Rattle.inspection.specs.SvPublisher.{svPublisher}
-use Rattle.inspection.specs.SvSeq.{svKey, svChecked}
-use Rattle.inspection.specs.TimeField.{timeChecked}
-use Rattle.inspection.proofs.CallLaws.{sv-inspects, goose-inspects}
-use Rattle.inspection.proofs.CheckLaws.{sv-time-field, goose-time-field}
-use Rattle.inspection.proofs.SettingLaws.{Remembering, remembering}
+use Rattle.inspection.proofs.CheckLaws.{goose-kept, sv-kept}
+use Rattle.demand3.specs.Demand3.{Inspection, goose, sv, inspect, afterHistory, answers, Answer, answerOf, Premises}
 use Rattle.demand3.proofs.AnswerLaws.{answerFrom, reported-answer}
+use Rattle.demand3.proofs.Remembering.{Remembering, remembering}
 
-module _ (s : Settings) (v : Remembering) where
+-- by the settings of a monitor, from tables
+module _ (m : Monitor) (v : Remembering) where
   abbrev pub clockOf : List ℕ → ℕ × ℕ → TimeChecked
-  clockOf mac pair = timeChecked (v .timeTrackers) (s .«time_max_forward_jump_s») (addressOf mac) pair
+  clockOf mac pair = timeChecked (v .timeTrackers) (timeMaxForwardJump m) (addressOf mac) pair
+
+  abbrev pub streamOf : GooseFrame → GooseChecked
+  streamOf f = gooseChecked (v .gooseSeq) (streamKey (gooseRead f .numbers)) (timedNumbers (gooseRead f .numbers))
+
+  abbrev pub countOf : SvFrame → SvChecked
+  countOf f = svChecked (v .svSeq) (plainKey (svidOf f)) (f .«smp_cnt»)
+
+  -- a GOOSE frame that is not blocked
+  abbrev pub unblocked : GooseFrame → Remembering
+  unblocked f = record { svSeq = v .svSeq; gooseSeq = streamOf f .table; timeTrackers = clockOf (f .«src_mac») (goosePair f) .table }
+
+  abbrev pub unblockedFindings : GooseFrame → List Finding
+  unblockedFindings f = clockFindings (clockOf (f .«src_mac») (goosePair f) .alert) ++ streamFindings (streamOf f .replay) false
 
   abbrev pub next : Inspection → Remembering
-  next (goose f) =
-      cond (blocked s f) v (record {
-        svSeq = v .svSeq;
-        gooseSeq = gooseChecked (v .gooseSeq) (gooseKey f) (gooseTimed f) .table;
-        timeTrackers = clockOf (f .«src_mac») (goosePair f) .table;
-      })
-  next (sv f) = record {
-    svSeq = svChecked (v .svSeq) (svKey f) (f .«smp_cnt») .table;
-    gooseSeq = v .gooseSeq;
-    timeTrackers = clockOf (f .«src_mac») (svPair f) .table;
-  }
+  next (goose f) = cond (blocked m (f .test)) v (unblocked f)
+  next (sv f) = record { svSeq = countOf f .table; gooseSeq = v .gooseSeq; timeTrackers = clockOf (f .«src_mac») (svPair f) .table }
 
   abbrev pub findings : Inspection → List Finding
-  findings (goose f) =
-      cond (blocked s f) (refusal Medium PolicyViolation ∷ [])
-      (clockFindings (clockOf (f .«src_mac») (goosePair f) .alert) ++ streamFindings (gooseChecked (v .gooseSeq) (gooseKey f) (gooseTimed f) .replay) false)
-  findings (sv f) =
-      clockFindings (clockOf (f .«src_mac») (svPair f) .alert)
-      ++ countFindings (s .«sv_max_smp_cnt_gap») [] (svChecked (v .svSeq) (svKey f) (f .«smp_cnt») .outcome)
+  findings (goose f) = cond (blocked m (f .test)) (refusal Medium PolicyViolation ∷ []) (unblockedFindings f)
+  findings (sv f) = clockFindings (clockOf (f .«src_mac») (svPair f) .alert) ++ countFindings (svMaxSmpCntGap m) [] (countOf f .outcome)
 
 -- ---- without reservations and publishers
 
-abbrev notReserved : CbChecked
-notReserved = record { table = noReservations; hijack = false }
+none-found : (t key : List ℕ) → t ≡ noEntries 224 → found named t key ≡ Nothing
+unfolding found firstFrom
+none-found t key e =
+    first-same (λ i. hasKey t key i && inUse (rankOf t) i) (λ i. false) 0 16
+    (λ i l. rw (e, rank-none 224 (omega arith) i l) (and-false (hasKey (noEntries 224) key i)))
 
-no-hijack : (name : List ℕ) (isGoose : Bool) (address : ℕ) → cbChecked noReservations name isGoose address ≡ notReserved
-unfolding cbChecked reservationOf reservesAt firstFrom
-no-hijack name isGoose address = cond-holds (λ (c : CbChecked). c ≡ notReserved) (eqb (length name) 0) refl refl
+not-bound : (t key : List ℕ) (address : ℕ) → t ≡ noEntries 224 → cbChecked t key address ≡ record { table = t; hijack = false }
+unfolding cbChecked
+not-bound t key address e =
+    cond-holds (λ (c : CbChecked). c ≡ record { table = t; hijack = false }) (eqb (getD key 1 0) 0) refl (ap (boundBy t address) (none-found t key e))
 
-not-registered : (p : SvPublishers) (address : ℕ) (svid : List ℕ) → p .count ≡ 0 → svPublisher p address svid ≡ NotRegistered
+not-registered : (p : List ℕ) (address : ℕ) (svid : List ℕ) → getD p 192 0 ≡ 0 → svPublisher p address svid ≡ NotRegistered
 unfolding svPublisher lastBelow
 not-registered p address svid e = rw e
 
@@ -81,124 +91,134 @@ no-rate : (frameRate : ℕ) → rateFindings frameRate 0 ≡ []
 unfolding rateFindings
 no-rate frameRate = rw (and-false (ltb 0 frameRate))
 
--- the checks of a counted GOOSE frame, blocked or not
-abbrev unlessBlocked : Iec61850Monitor → GooseFrame → Bool → Checked
-unlessBlocked m f b = cond b (ended (countedGoose m) (refusal Medium PolicyViolation ∷ [])) (gooseTimeField (countedGoose m) f)
+-- a monitor with the settings of another, without publishers, reservations and enforcement
+pub record Plain (m n : Monitor) : Type 0 where
+  pub settings : n .settings ≡ m .settings
+  pub premises : Premises n
+  pub free : n .«cb_reservations» ≡ noEntries 224
 
-module _ (m : Iec61850Monitor) (p : Premises m) (free : m .«cb_reservations» ≡ noReservations) where
-  sv-checks : (f : SvFrame) → svBinding (countedSv m) f ≡ svTimeField (countedSv m) f 0
-  unfolding svBinding svReservation countedSv
-  sv-checks f =
-      rw (not-registered (m .rules .sv) (addressOf (f .«src_mac»)) (svKey f) (p .no-sv-publisher), p .no-sv-publisher, and-false, free, no-hijack)
+-- a monitor with these tables
+abbrev withTables : Monitor → Remembering → Monitor
+withTables n v = withSvSeq (withGooseSeq (withTimeTrackers n (v .timeTrackers)) (v .gooseSeq)) (v .svSeq)
 
-  goose-checks : (f : GooseFrame) → gooseTest (countedGoose m) f ≡ unlessBlocked m f (blocked (m .settings) f)
-  unfolding gooseTest gooseAllowed gooseReservation countedGoose
-  goose-checks f = rw (p .no-goose-publisher, free, no-hijack)
+module _ {m n : Monitor} (q : Plain m n) where
+  -- other totals and tables change none of these
+  plain-with : (totals : List ℕ) (v : Remembering) → Plain m (withTotals (withTables n v) totals)
+  plain-with totals v = record {
+    settings = q .settings;
+    premises = record {
+      no-goose-publisher = q .premises .no-goose-publisher;
+      no-sv-publisher = q .premises .no-sv-publisher;
+      not-enforced = q .premises .not-enforced;
+      jump-limit = q .premises .jump-limit;
+    };
+    free = q .free;
+  }
+
+  counted-plain : (place : ℕ) → Plain m (frameCounted n place)
+  unfolding frameCounted
+  counted-plain place = plain-with _ (remembering n)
+
+  no-hijack : (key : List ℕ) (address : ℕ) → cbOn n key address ≡ record { monitor = n; answer = false }
+  unfolding cbOn
+  no-hijack key address =
+      ap (λ (c : CbChecked). after (withCbReservations n) (λ c. c .table) (λ c. c .hijack) c) (not-bound (n .«cb_reservations») key address (q .free))
+
+  no-publisher : (address : ℕ) (svid : List ℕ) → svRule n address svid ≡ Rate 0
+  unfolding svRule
+  no-publisher address svid = let e = q .premises .no-sv-publisher in rw (not-registered (n .«sv_publishers») address svid e, e, and-false)
+
+not-asked : (m : Monitor) (n : GooseNumbers) → retxEnforce m ≡ false → retransmitted m n ≡ false
+unfolding retransmitted
+not-asked m n e = rw e
 
 -- ---- one inspection
 
-not-enforced : (schedule : RetxSchedule) (t : GooseSeqTable) (key : ℕ × ℕ) (new : (ℕ × ℕ) × ℕ) → retxChecked false schedule t key new ≡ false
-unfolding retxChecked
-not-enforced schedule t key new = go (valueOf gooseStreams t key)
-  where
-    go : (o : Option ((ℕ × ℕ) × ℕ)) → retransmission false schedule o new ≡ false
-    go none = refl
-    go (some last) = refl
+-- what the checks of a frame leave and find
+abbrev checked : Monitor → Inspection → ℕ → Checked
+checked n x place = ended (withTables (frameCounted n place) (next n (remembering n) x)) (findings n (remembering n) x)
+
+module _ {m n : Monitor} (q : Plain m n) where
+  sv-checks : (f : SvFrame) → svBinding (countedSv n) (svRead f) ≡ checked n (sv f) 2
+  unfolding svBinding svReservation svTimeField timeFieldOn svSeqOn frameCounted
+  sv-checks f =
+      let c = counted-plain q 2 in
+      rw (no-publisher c (svRead f .numbers .address) (svRead f .svid), no-hijack c (svRead f .dataset) (svRead f .numbers .address), no-rate)
+
+  goose-checks : (f : GooseFrame) → gooseTest (countedGoose n) (gooseRead f) ≡ checked n (goose f) 1
+  unfolding gooseTest gooseAllowed gooseReservation gooseUnknown gooseTimeField timeFieldOn gooseSeqOn frameCounted
+  goose-checks f =
+      rw (q .premises .no-goose-publisher, no-hijack (counted-plain q 1) (gooseRead f .reservation) (gooseRead f .numbers .address)) (go (blocked n (f .test)))
+    where
+      go : (b : Bool) → cond b (ended (countedGoose n) (refusal Medium PolicyViolation ∷ [])) (gooseTimeField (gooseRead f .numbers) (countedGoose n))
+          ≡ ended (withTables (countedGoose n) (cond b (remembering n) (unblocked n (remembering n) f)))
+          (cond b (refusal Medium PolicyViolation ∷ []) (unblockedFindings n (remembering n) f))
+      go true = refl
+      go false =
+          let clocked = withTimeTrackers (countedGoose n) (clockOf n (remembering n) (f .«src_mac») (goosePair f) .table) in
+          rw (not-asked clocked (gooseRead f .numbers) (q .premises .not-enforced))
+
+-- only the settings count
+module _ {m n : Monitor} (q : Plain m n) (v : Remembering) where
+  next-same : (x : Inspection) → next n v x ≡ next m v x
+  next-same (goose f) = rw (q .settings)
+  next-same (sv f) = rw (q .settings)
+
+  findings-same : (x : Inspection) → findings n v x ≡ findings m v x
+  findings-same (goose f) = rw (q .settings)
+  findings-same (sv f) = rw (q .settings)
 
 -- what an inspection leaves and answers
-pub record Done (m : Iec61850Monitor) (x : Inspection) : Type 0 where
-  pub settings : inspect m x .monitor .settings ≡ m .settings
-  pub rules : inspect m x .monitor .rules ≡ m .rules
-  pub reservations : inspect m x .monitor .«cb_reservations» ≡ m .«cb_reservations»
-  pub tables : remembering (inspect m x .monitor) ≡ next (m .settings) (remembering m) x
-  pub answer : answerOf (inspect m x .result) ≡ answerFrom true [] (findings (m .settings) (remembering m) x)
+pub record Done (m n : Monitor) (x : Inspection) : Type 0 where
+  pub plain : Plain m (inspect n x .monitor)
+  pub tables : remembering (inspect n x .monitor) ≡ next m (remembering n) x
+  pub answer : answerOf (inspect n x .answer) ≡ answerFrom true [] (findings m (remembering n) x)
 
-module _ (m : Iec61850Monitor) (p : Premises m) (free : m .«cb_reservations» ≡ noReservations) where
-  sv-done : (f : SvFrame) → Done m (sv f)
-  unfolding inspectSv svTimeField reported countedSv
-  sv-done f = record {
-    settings = sv-inspects m f .same .settings;
-    rules = sv-inspects m f .same .rules;
-    reservations = rw (sv-checks m p free f);
-    tables = rw (sv-checks m p free f);
-    answer =
-        rw (sv-checks m p free f)
-        (reported-answer _ _ _ (svTimeField (countedSv m) f 0) (omega (arith, sv-time-field (countedSv m) f 0 .few)) ∙ rw no-rate);
-  }
-
-  goose-done : (f : GooseFrame) → Done m (goose f)
-  unfolding inspectGoose gooseTimeField reported countedGoose
-  goose-done f = go (blocked (m .settings) f) (goose-checks m p free f) refl
-    where
-      go : (b : Bool) → gooseTest (countedGoose m) f ≡ unlessBlocked m f b → blocked (m .settings) f ≡ b → Done m (goose f)
-      go true e q = record {
-        settings = goose-inspects m f .same .settings;
-        rules = goose-inspects m f .same .rules;
-        reservations = rw e;
-        tables = rw (e, q);
-        answer = rw (e, q) (reported-answer _ _ _ (ended (countedGoose m) (refusal Medium PolicyViolation ∷ [])) (omega arith));
-      }
-      go false e q = record {
-        settings = goose-inspects m f .same .settings;
-        rules = goose-inspects m f .same .rules;
-        reservations = rw e;
-        tables = rw (e, q);
+module _ {m n : Monitor} (q : Plain m n) where
+  done-by : (x : Inspection) (source sourceNumber time place : ℕ) (c : Checked)
+      → inspect n x ≡ reported source sourceNumber time c → length (c .answer) ≤ 3 → c ≡ checked n x place → Done m n x
+  unfolding reported withAlerts frameCounted
+  done-by x source sourceNumber time place c i few e =
+      let r = i ∙ ap (reported source sourceNumber time) e in
+      record {
+        plain = subst (λ (r : After InspectResult). Plain m (r .monitor)) (sym r) (plain-with q _ (next n (remembering n) x));
+        tables = ap (λ (r : After InspectResult). remembering (r .monitor)) r ∙ next-same q (remembering n) x;
         answer =
-            rw (e, q)
-            (reported-answer _ _ _ (gooseTimeField (countedGoose m) f) (omega (arith, goose-time-field (countedGoose m) f .few))
-            ∙ rw (p .not-enforced, not-enforced));
+            ap (λ (r : After InspectResult). answerOf (r .answer)) i
+            ∙ reported-answer source sourceNumber time c (omega arith)
+            ∙ ap (λ (c : Checked). answerFrom true [] (c .answer)) e
+            ∙ ap (answerFrom true []) (findings-same q (remembering n) x);
       }
 
-  pub done : (x : Inspection) → Done m x
-  done (goose f) = goose-done f
-  done (sv f) = sv-done f
+  pub done : (x : Inspection) → Done m n x
+  unfolding inspectGoose inspectSv
+  done (goose f) =
+      done-by (goose f) sourceGoose (f .«st_num») (f .«timestamp_us») 1 (gooseTest (countedGoose n) (gooseRead f)) refl
+      (goose-kept (countedGoose n) (gooseRead f) .few) (goose-checks q f)
+  done (sv f) =
+      done-by (sv f) sourceSv (f .«smp_cnt») (f .«timestamp_us») 2 (svBinding (countedSv n) (svRead f)) refl
+      (sv-kept (countedSv n) (svRead f) .few) (sv-checks q f)
 
 -- ---- a list of inspections
 
--- without publishers, reservations and enforcement
-pub record Plain (m : Iec61850Monitor) : Type 0 where
-  pub premises : Premises m
-  pub free : m .«cb_reservations» ≡ noReservations
+abbrev pub nextAll : Monitor → Remembering → List Inspection → Remembering
+nextAll m = foldl (next m)
 
-premises-kept : {m m′ : Iec61850Monitor} → m′ .settings ≡ m .settings → m′ .rules ≡ m .rules → Premises m → Premises m′
-premises-kept s r p = record {
-  no-goose-publisher = rw r (p .no-goose-publisher);
-  no-sv-publisher = rw r (p .no-sv-publisher);
-  not-enforced = rw s (p .not-enforced);
-  jump-limit = rw s (p .jump-limit);
-}
+abbrev pub answersFrom : Monitor → Remembering → List Inspection → List Answer
+answersFrom m = outputs (λ v x. answerFrom true [] (findings m v x)) (next m)
 
-abbrev pub nextAll : Settings → Remembering → List Inspection → Remembering
-nextAll s = foldl (next s)
-
-abbrev pub answersFrom : Settings → Remembering → List Inspection → List Answer
-answersFrom s = outputs (λ v x. answerFrom true [] (findings s v x)) (next s)
-
-module _ {m : Iec61850Monitor} (q : Plain m) (x : Inspection) where
-  plain-done : Done m x
-  plain-done = done m (q .premises) (q .free) x
-
-  pub plain-next : Plain (inspect m x .monitor)
-  plain-next = record {
-    premises = premises-kept (plain-done .settings) (plain-done .rules) (q .premises);
-    free = plain-done .reservations ∙ q .free;
-  }
-
-pub record Left (m m′ : Iec61850Monitor) (h : List Inspection) : Type 0 where
-  pub plain : Plain m′
-  pub settings : m′ .settings ≡ m .settings
-  pub tables : remembering m′ ≡ nextAll (m .settings) (remembering m) h
+pub record Left (m n n′ : Monitor) (h : List Inspection) : Type 0 where
+  pub plain : Plain m n′
+  pub tables : remembering n′ ≡ nextAll m (remembering n) h
 
 -- the monitor that a history leaves
-pub left : {m : Iec61850Monitor} → Plain m → (h : List Inspection) → Left m (afterHistory m h) h
-left q [] = record { plain = q; settings = refl; tables = refl }
+pub left : {m n : Monitor} → Plain m n → (h : List Inspection) → Left m n (afterHistory n h) h
+left q [] = record { plain = q; tables = refl }
 left {m} q (x ∷ h) =
-    let d = plain-done q x in
-    let r = left (plain-next q x) h in
-    record { plain = r .plain; settings = r .settings ∙ d .settings; tables = r .tables ∙ rw (d .settings, d .tables) }
+    let d = done q x in
+    let r = left (d .plain) h in
+    record { plain = r .plain; tables = r .tables ∙ ap (λ (v : Remembering). nextAll m v h) (d .tables) }
 
-pub answers-from : {m : Iec61850Monitor} → Plain m → (further : List Inspection) → answers m further ≡ answersFrom (m .settings) (remembering m) further
+pub answers-from : {m n : Monitor} → Plain m n → (further : List Inspection) → answers n further ≡ answersFrom m (remembering n) further
 answers-from q [] = refl
-answers-from {m} q (x ∷ further) =
-    let d = plain-done q x in
-    rw (d .answer, answers-from (plain-next q x) further, d .settings, d .tables)
+answers-from q (x ∷ further) = let d = done q x in rw (d .answer, answers-from (d .plain) further, d .tables)

@@ -1,19 +1,18 @@
 -- Demand 3 for histories that mix raw and decoded frames (01: a raw frame counts as the frame read from it, an unreadable one is no call).
-use Prim.Native.Nat.{ℕ, _+_, _≤_, _<_, _^_}
+use Prim.Native.Nat.{ℕ, _<_, _^_}
 use mathlib.Core.Bool.{Bool}
 use mathlib.Core.List.{List, [], _∷_, _++_, foldl}
 use mathlib.Core.Logic.{_↔_}
 use mathlib.Core.Path.{_≡_}
-use lib.ListN.{length}
 use Rattle.records.specs.declared.frame.SvFrame.{SvFrame}
 use Rattle.records.specs.Legal.{Octets}
 use Rattle.wire.specs.declared.sv.Parsed.{Parsed}
 use Rattle.wire.specs.declared.sv.Parsed.the-variants.{Frame, Error}
 use Rattle.wire.specs.Sv.{svFrame}
-use Rattle.inspection.specs.declared.monitor.Iec61850Monitor.{Iec61850Monitor}
+use Rattle.monitor.specs.Monitor.{Monitor}
 use Rattle.inspection.specs.Calls.{Setting, configuredMonitor}
-use Rattle.demand3.specs.Demand3.{Inspection, sv, Legal, inspect, afterHistory, Answer, answerOf, Premises, EqualLists, Distinguished}
 use Rattle.inspection.specs.InspectSv.{inspectRawSv}
+use Rattle.demand3.specs.Demand3.{Inspection, sv, Legal, inspect, afterHistory, Answer, answerOf, Premises, EqualLists, Distinguished}
 
 -- a frame that the host decoded, or the octets and the time of an SV frame
 pub data Arrival : Type 0 where
@@ -40,11 +39,11 @@ inspections [] = []
 inspections (x ∷ a) = inspectionOf x ++ inspections a
 
 -- the monitor after arrivals
-abbrev pub arrived : Iec61850Monitor → Arrival → Iec61850Monitor
+abbrev pub arrived : Monitor → Arrival → Monitor
 arrived m (decoded x) = inspect m x .monitor
 arrived m (raw octets time) = inspectRawSv m octets time .monitor
 
-abbrev pub afterArrivals : Iec61850Monitor → List Arrival → Iec61850Monitor
+abbrev pub afterArrivals : Monitor → List Arrival → Monitor
 afterArrivals m a = foldl arrived m a
 
 -- the answers to arrivals: none to an unreadable frame
@@ -52,26 +51,24 @@ abbrev pub ifAnswered : Parsed → Answer → List Answer
 ifAnswered Frame answer = answer ∷ []
 ifAnswered (Error e) answer = []
 
-abbrev pub answered : Iec61850Monitor → Arrival → List Answer
-answered m (decoded x) = answerOf (inspect m x .result) ∷ []
-answered m (raw octets time) = ifAnswered (inspectRawSv m octets time .answer) (answerOf (inspectRawSv m octets time .result))
+abbrev pub answered : Monitor → Arrival → List Answer
+answered m (decoded x) = answerOf (inspect m x .answer) ∷ []
+answered m (raw octets time) = ifAnswered (inspectRawSv m octets time .answer .answer) (answerOf (inspectRawSv m octets time .answer .result))
 
-abbrev pub arrivalAnswers : Iec61850Monitor → List Arrival → List Answer
+abbrev pub arrivalAnswers : Monitor → List Arrival → List Answer
 arrivalAnswers m [] = []
 arrivalAnswers m (x ∷ further) = answered m x ++ arrivalAnswers (arrived m x) further
 
 -- every further list of arrivals gets the same answers after both
-abbrev pub SameArrivalAnswers : Iec61850Monitor → List Arrival → List Arrival → Type 0
+abbrev pub SameArrivalAnswers : Monitor → List Arrival → List Arrival → Type 0
 SameArrivalAnswers m a a′ =
-    (further : List Arrival) → LegalArrivals further → length (inspections a) + length (inspections further) ≤ 4294967295
-    → length (inspections a′) + length (inspections further) ≤ 4294967295
-    → arrivalAnswers (afterArrivals m a) further ≡ arrivalAnswers (afterArrivals m a′) further
+    (further : List Arrival) → LegalArrivals further → arrivalAnswers (afterArrivals m a) further ≡ arrivalAnswers (afterArrivals m a′) further
 
 -- mixed histories leave the monitors of the inspections that they are, and demand 3 holds for them
 abbrev pub Demand3Mixed : Type 0
 Demand3Mixed =
-    (strict : Bool) (settings : List Setting) (a a′ : List Arrival) → Premises (configuredMonitor strict settings)
-    → LegalArrivals a → LegalArrivals a′ → length (inspections a) ≤ 4000000000 → length (inspections a′) ≤ 4000000000
+    (strict : Bool) (settings : List Setting) (a a′ : List Arrival) → Premises (configuredMonitor strict settings) → LegalArrivals a → LegalArrivals a′
     → (afterArrivals (configuredMonitor strict settings) a ≡ afterHistory (configuredMonitor strict settings) (inspections a))
     × (EqualLists (configuredMonitor strict settings) (inspections a) (inspections a′) ↔ SameArrivalAnswers (configuredMonitor strict settings) a a′)
-    × (¬ EqualLists (configuredMonitor strict settings) (inspections a) (inspections a′) → Distinguished (configuredMonitor strict settings) (inspections a) (inspections a′))
+    × (¬ EqualLists (configuredMonitor strict settings) (inspections a) (inspections a′)
+    → Distinguished (configuredMonitor strict settings) (inspections a) (inspections a′))

@@ -5,8 +5,8 @@ use lib.Dec.{eqb}
 use Rattle.records.specs.Error.{errorNumber}
 use Rattle.wire.specs.declared.sv.Parsed.{Parsed}
 use Rattle.wire.specs.declared.sv.Parsed.the-variants as parsed
-use Rattle.inspection.specs.declared.rules.Added.{Added}
-use Rattle.inspection.specs.declared.rules.Added.the-variants as added
+use Rattle.checks.specs.declared.rules.Added.{Added}
+use Rattle.checks.specs.declared.rules.Added.the-variants as added
 
 -- a flag handed in: any number but 0 is true
 abbrev pub flagOf : ℕ → Bool

@@ -1,19 +1,17 @@
--- What the engine answers, in numbers: alerts, results, and the monitor beside them.
-use mathlib.Core.List.{map}
+-- What the engine answers, in numbers: alerts, results and verdicts, and the monitor beside them.
+use Prim.Native.Nat.{ℕ}
+use mathlib.Core.List.{List, map}
 use Rattle.records.specs.declared.alert.CodedAlert.{CodedAlert}
 use Rattle.records.specs.declared.result.InspectResult.{InspectResult}
 use Rattle.records.specs.Alert.{severityNumber, codeNumber}
+use Rattle.records.specs.Verdict.{verdictOf}
 use Rattle.wire.specs.declared.sv.ParsedSv.{ParsedSv}
-use Rattle.inspection.specs.declared.monitor.Configured.{Configured}
-use Rattle.inspection.specs.declared.monitor.Inspected.{Inspected}
-use Rattle.inspection.specs.declared.monitor.RawInspected.{RawInspected}
+use Rattle.monitor.specs.Parts.{After}
+use Rattle.inspection.specs.declared.inspect_sv.RawSv.{RawSv}
 use Rattle.host.specs.declared.result.HostAlert.{HostAlert}
 use Rattle.host.specs.declared.result.HostResult.{HostResult}
-use Rattle.host.specs.declared.result.HostConfigured.{HostConfigured}
-use Rattle.host.specs.declared.result.HostInspected.{HostInspected}
-use Rattle.host.specs.declared.result.HostRawInspected.{HostRawInspected}
 use Rattle.host.specs.declared.result.HostParsed.{HostParsed}
-use Rattle.host.specs.Flag.{flagNumber, addedError, parsedError}
+use Rattle.host.specs.Flag.{flagNumber, parsedError}
 
 -- an alert with its severity and its code as numbers
 abbrev pub hostAlert : CodedAlert → HostAlert
@@ -39,19 +37,17 @@ hostResult r =
       alerts = map hostAlert (r .alerts);
     }
 
--- the monitor after an add call, and its error's number
-abbrev pub hostConfigured : Configured → HostConfigured
-hostConfigured c = record { monitor = c .monitor; error = addedError (c .answer) }
+-- of a raw frame: the result or the verdict, and the error's number
+abbrev pub rawResult : RawSv → HostResult × ℕ
+rawResult s = (hostResult (s .result), parsedError (s .answer))
 
--- the monitor after an inspection, and the result
-abbrev pub hostInspected : Inspected → HostInspected
-hostInspected i = record { monitor = i .monitor; result = hostResult (i .result) }
-
--- the monitor after a raw frame, the result, and the error's number
-abbrev pub hostRawInspected : RawInspected → HostRawInspected
-hostRawInspected i =
-    record { monitor = i .monitor; result = hostResult (i .result); error = parsedError (i .answer) }
+abbrev pub rawVerdict : RawSv → List ℕ × ℕ
+rawVerdict s = (verdictOf (s .result), parsedError (s .answer))
 
 -- the frame read from octets, and the error's number
 abbrev pub hostParsed : ParsedSv → HostParsed
 hostParsed p = record { frame = p .frame; error = parsedError (p .answer) }
+
+-- a monitor, and the answer in numbers
+abbrev pub answered : {A B : Type 0} → (A → B) → After A → After B
+answered numbers a = record { monitor = a .monitor; answer = numbers (a .answer) }

@@ -1,7 +1,7 @@
 // Flags and errors as numbers: an exported struct may hold no enum, and a bool of a caller may hold any octet.
 ghost use mathlib.Core.Path.{_≡_};
 ghost use Rattle.host.specs.Flag.{flagNumber, addedError, parsedError};
-use inspection::rules::Added;
+use checks::rules::Added;
 use wire::sv::Parsed;
 
 // No error: the errors are 0 to 14.

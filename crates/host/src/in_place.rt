@@ -1,282 +1,287 @@
-// The inspections in place, for a recorder that keeps a monitor where it stands: an export takes the columns of a monitor by their
-// addresses, so that of the monitor only the settings, and for MMS the rules, are copied. The inline functions of include/mokyndu.h hand the addresses over.
+// Every call in place as a C export: one pointer to a monitor, which is changed where it stands.
 ghost use mathlib.Core.Path.{_≡_};
-ghost use Rattle.records.specs.Verdict.{verdictOf};
-ghost use Rattle.wire.specs.Sv.{svFrame};
-ghost use Rattle.inspection.specs.GooseSeq.{gooseTableOf};
-ghost use Rattle.inspection.specs.InspectGoose.{inspectGoose, gooseMonitorOf};
-ghost use Rattle.inspection.specs.InspectMms.{inspectMms, mmsMonitorOf};
-ghost use Rattle.inspection.specs.InspectSv.{inspectSv, svMonitorOf};
-ghost use Rattle.inspection.specs.Rate.{bucketTableOf};
-ghost use Rattle.inspection.specs.Reservation.{cbTableOf};
-ghost use Rattle.inspection.specs.SvSeq.{svTableOf};
-ghost use Rattle.inspection.specs.TimeField.{clockTableOf};
-ghost use Rattle.host.specs.Frame.{mmsFrameOf, gooseFrameOf};
-ghost use Rattle.host.specs.Result.{hostParsed};
+ghost use mathlib.Core.Bool.{true, false};
+ghost use Rattle.monitor.specs.Monitor.{monitorOf};
+ghost use Rattle.monitor.specs.Parts.{mmsAddedOn, gooseAddedOn, svAddedOn};
+ghost use Rattle.monitor.specs.Reset.{newMonitor, resetMonitor};
+ghost use Rattle.monitor.specs.Settings.{setMmsServiceMask, setMmsReadOnly, setBlockTestFrames, setSvMaxSmpCntGap, setRetxSchedule};
+ghost use Rattle.monitor.specs.Settings.{setTimeMaxForwardJump, strictMode};
+ghost use Rattle.monitor.specs.Totals.{mmsTotalInspected, gooseTotalInspected, svTotalInspected, totalAlerts};
+ghost use Rattle.inspection.specs.Address.{addressOf};
+ghost use Rattle.inspection.specs.InspectGoose.{inspectGoose};
+ghost use Rattle.inspection.specs.InspectMms.{inspectMms};
+ghost use Rattle.inspection.specs.InspectSv.{inspectSv, inspectRawSv};
+ghost use Rattle.inspection.specs.Report.{withVerdict};
+ghost use Rattle.lent.specs.Goose.{gooseFrameOf};
+ghost use Rattle.lent.specs.Mms.{mmsFrameOf};
+ghost use Rattle.lent.specs.Sv.{svFrameOf};
+ghost use Rattle.batch.specs.Batch.{svBatch};
+ghost use Rattle.host.specs.Flag.{flagOf, flagNumber, addedError};
+ghost use Rattle.host.specs.Result.{rawVerdict, answered};
+use crate::flag::added_error;
+use crate::flag::flag_number;
 use crate::flag::parsed_error;
-use crate::frame::HostGooseFrame;
-use crate::frame::HostMmsFrame;
-use crate::frame::goose_frame_of;
-use crate::frame::mms_frame_of;
-use crate::result::HostParsed;
+use crate::result::HostRawVerdict;
 use crate::result::HostVerdict;
-use inspection::inspect_goose::goose_checks;
-use inspection::inspect_mms::mms_checks;
-use inspection::inspect_sv::sv_checks;
-use inspection::mms_rule::MmsRules;
-use inspection::monitor::Iec61850Monitor;
-use inspection::report::verdict_on;
-use inspection::settings::Settings;
-use records::alert::SOURCE_IEC61850_GOOSE;
-use records::alert::SOURCE_IEC61850_MMS;
-use records::alert::SOURCE_IEC61850_SV;
-use records::counter::saturating_increment;
-use records::frame::SvFrame;
-use records::result::AlertCounters;
+use batch::inspect_sv_batch;
+use inspection::address::address_of;
+use inspection::inspect_sv::sv_verdict_on;
+use lent::goose::goose_verdict_lent;
+use lent::mms::mms_verdict_lent;
+use lent::sv::sv_verdict_lent;
+use monitor::parts::add_goose_publisher_on;
+use monitor::parts::add_mms_rule_on;
+use monitor::parts::add_sv_publisher_on;
+use monitor::reset::new_on;
+use monitor::reset::reset_on;
+use monitor::settings::STRICT_MODE;
+use monitor::settings::flag_on;
+use monitor::settings::set_block_test_frames_on;
+use monitor::settings::set_mms_read_only_on;
+use monitor::settings::set_mms_service_mask_on;
+use monitor::settings::set_retx_schedule_on;
+use monitor::settings::set_sv_max_smp_cnt_gap_on;
+use monitor::settings::set_time_max_forward_jump_s_on;
+use monitor::totals::GOOSE_TOTAL_INSPECTED;
+use monitor::totals::MMS_TOTAL_INSPECTED;
+use monitor::totals::SV_TOTAL_INSPECTED;
+use monitor::totals::TOTAL_ALERTS;
+use monitor::totals::total_on;
+use records::schedule::RetxSchedule;
+use wire::sv::Parsed;
 use wire::sv::parse_sv;
 
-// The verdict on an MMS frame, in the columns of a monitor.
+// Makes a monitor that is not strict, whatever stood there.
 #[no_mangle]
-pub extern "C" fn mokyndu_inspect_mms_in<'a>(
-    frame: HostMmsFrame,
-    settings: Settings,
-    rules: MmsRules,
-    keys: &'a mut [u64; 16],
-    tokens: &'a mut [u16; 16],
-    capacity: &'a mut [u16; 16],
-    last_refill_us: &'a mut [u64; 16],
-    active: &'a mut [bool; 16],
-    used: &'a mut [u32; 16],
-    tick: &'a mut u32,
-    cb_refs: &'a mut [u8; 1024],
-    cb_lens: &'a mut [u8; 16],
-    cb_kinds: &'a mut [bool; 16],
-    cb_owners: &'a mut [u32; 16],
-    cb_bound: &'a mut [bool; 16],
-    cb_macs: &'a mut [u64; 16],
-    cb_active: &'a mut [bool; 16],
-    total: &'a mut u64,
-    next_alert_id: &'a mut u64,
-    total_alerts: &'a mut u64,
-) -> HostVerdict
-    ensures { λ _. ⌜ ((m : Iec61850Monitor) → (mmsMonitorOf m settings rules (bucketTableOf (now (keys .exit)) (now (tokens .exit)) (now (capacity .exit)) (now («last_refill_us» .exit)) (now (active .exit)) (now (used .exit)) (now (tick .exit))) (cbTableOf (now («cb_refs» .exit)) (now («cb_lens» .exit)) (now («cb_kinds» .exit)) (now («cb_owners» .exit)) (now («cb_bound» .exit)) (now («cb_macs» .exit)) (now («cb_active» .exit))) (now (total .exit)) (now («next_alert_id» .exit)) (now («total_alerts» .exit))) ≡ inspectMms (mmsMonitorOf m settings rules (bucketTableOf (now (keys .entry)) (now (tokens .entry)) (now (capacity .entry)) (now («last_refill_us» .entry)) (now (active .entry)) (now (used .entry)) (now (tick .entry))) (cbTableOf (now («cb_refs» .entry)) (now («cb_lens» .entry)) (now («cb_kinds» .entry)) (now («cb_owners» .entry)) (now («cb_bound» .entry)) (now («cb_macs» .entry)) (now («cb_active» .entry))) (now (total .entry)) (now («next_alert_id» .entry)) (now («total_alerts» .entry))) (mmsFrameOf frame) .monitor) ⌝ }
-    ensures { λ r. ⌜ ((m : Iec61850Monitor) → r .octets ≡ verdictOf (inspectMms (mmsMonitorOf m settings rules (bucketTableOf (now (keys .entry)) (now (tokens .entry)) (now (capacity .entry)) (now («last_refill_us» .entry)) (now (active .entry)) (now (used .entry)) (now (tick .entry))) (cbTableOf (now («cb_refs» .entry)) (now («cb_lens» .entry)) (now («cb_kinds» .entry)) (now («cb_owners» .entry)) (now («cb_bound» .entry)) (now («cb_macs» .entry)) (now («cb_active» .entry))) (now (total .entry)) (now («next_alert_id» .entry)) (now («total_alerts» .entry))) (mmsFrameOf frame) .result)) ⌝ }
+pub extern "C" fn mokyndu_new_in_place(m: &mut [u64; 1218])
+    ensures { λ _. ⌜ monitorOf (now (m .exit)) ≡ newMonitor false ⌝ }
 {
-    let request = mms_frame_of(frame);
-    let alerts = mms_checks(
-        request,
-        settings,
-        rules,
-        keys,
-        tokens,
-        capacity,
-        last_refill_us,
-        active,
-        used,
-        tick,
-        cb_refs,
-        cb_lens,
-        cb_kinds,
-        cb_owners,
-        cb_bound,
-        cb_macs,
-        cb_active,
-    );
-    let counters = AlertCounters {
-        next_alert_id: *next_alert_id,
-        total_alerts: *total_alerts,
-    };
-    let noted = verdict_on(
-        counters,
-        alerts,
-        SOURCE_IEC61850_MMS,
-        request.invoke_id,
-        request.timestamp_us,
-    );
-    let counted = noted.counters;
-    *total = saturating_increment(*total);
-    *next_alert_id = counted.next_alert_id;
-    *total_alerts = counted.total_alerts;
-    let octets = noted.verdict;
-    HostVerdict { octets: octets }
+    new_on(m, false);
 }
 
-// The verdict on a GOOSE frame, in the columns of a monitor.
+// Makes a strict monitor, whatever stood there.
 #[no_mangle]
-pub extern "C" fn mokyndu_inspect_goose_in<'a>(
-    frame: HostGooseFrame,
-    settings: Settings,
-    rule_macs: &'a [u64; 16],
-    rule_refs: &'a [u8; 1024],
-    rule_lens: &'a [u8; 16],
-    rule_count: u8,
-    cb_refs: &'a [u8; 1024],
-    cb_lens: &'a [u8; 16],
-    cb_kinds: &'a [bool; 16],
-    cb_active: &'a [bool; 16],
-    cb_bound: &'a mut [bool; 16],
-    cb_macs: &'a mut [u64; 16],
-    clock_macs: &'a mut [u64; 16],
-    clock_seconds: &'a mut [u32; 16],
-    clock_fractions: &'a mut [u32; 16],
-    clock_active: &'a mut [bool; 16],
-    clock_used: &'a mut [u32; 16],
-    clock_tick: &'a mut u32,
-    src_macs: &'a mut [u64; 16],
-    hashes: &'a mut [u32; 16],
-    last_st_num: &'a mut [u32; 16],
-    last_sq_num: &'a mut [u32; 16],
-    last_seen_us: &'a mut [u64; 16],
-    active: &'a mut [bool; 16],
-    used: &'a mut [u32; 16],
-    tick: &'a mut u32,
-    total: &'a mut u64,
-    next_alert_id: &'a mut u64,
-    total_alerts: &'a mut u64,
-) -> HostVerdict
-    ensures { λ _. ⌜ ((m : Iec61850Monitor) → (gooseMonitorOf m settings (record { «src_mac» = now («rule_macs» .entry); «go_cb_ref» = record { octets = now («rule_refs» .entry); lens = now («rule_lens» .entry) }; count = «rule_count» }) (cbTableOf (now («cb_refs» .entry)) (now («cb_lens» .entry)) (now («cb_kinds» .entry)) (m .«cb_reservations» .«owner_client_id») (now («cb_bound» .exit)) (now («cb_macs» .exit)) (now («cb_active» .entry))) (clockTableOf (now («clock_macs» .exit)) (now («clock_seconds» .exit)) (now («clock_fractions» .exit)) (now («clock_active» .exit)) (now («clock_used» .exit)) (now («clock_tick» .exit))) (gooseTableOf (now («src_macs» .exit)) (now (hashes .exit)) (now («last_st_num» .exit)) (now («last_sq_num» .exit)) (now («last_seen_us» .exit)) (now (active .exit)) (now (used .exit)) (now (tick .exit))) (now (total .exit)) (now («next_alert_id» .exit)) (now («total_alerts» .exit))) ≡ inspectGoose (gooseMonitorOf m settings (record { «src_mac» = now («rule_macs» .entry); «go_cb_ref» = record { octets = now («rule_refs» .entry); lens = now («rule_lens» .entry) }; count = «rule_count» }) (cbTableOf (now («cb_refs» .entry)) (now («cb_lens» .entry)) (now («cb_kinds» .entry)) (m .«cb_reservations» .«owner_client_id») (now («cb_bound» .entry)) (now («cb_macs» .entry)) (now («cb_active» .entry))) (clockTableOf (now («clock_macs» .entry)) (now («clock_seconds» .entry)) (now («clock_fractions» .entry)) (now («clock_active» .entry)) (now («clock_used» .entry)) (now («clock_tick» .entry))) (gooseTableOf (now («src_macs» .entry)) (now (hashes .entry)) (now («last_st_num» .entry)) (now («last_sq_num» .entry)) (now («last_seen_us» .entry)) (now (active .entry)) (now (used .entry)) (now (tick .entry))) (now (total .entry)) (now («next_alert_id» .entry)) (now («total_alerts» .entry))) (gooseFrameOf frame) .monitor) ⌝ }
-    ensures { λ r. ⌜ ((m : Iec61850Monitor) → r .octets ≡ verdictOf (inspectGoose (gooseMonitorOf m settings (record { «src_mac» = now («rule_macs» .entry); «go_cb_ref» = record { octets = now («rule_refs» .entry); lens = now («rule_lens» .entry) }; count = «rule_count» }) (cbTableOf (now («cb_refs» .entry)) (now («cb_lens» .entry)) (now («cb_kinds» .entry)) (m .«cb_reservations» .«owner_client_id») (now («cb_bound» .entry)) (now («cb_macs» .entry)) (now («cb_active» .entry))) (clockTableOf (now («clock_macs» .entry)) (now («clock_seconds» .entry)) (now («clock_fractions» .entry)) (now («clock_active» .entry)) (now («clock_used» .entry)) (now («clock_tick» .entry))) (gooseTableOf (now («src_macs» .entry)) (now (hashes .entry)) (now («last_st_num» .entry)) (now («last_sq_num» .entry)) (now («last_seen_us» .entry)) (now (active .entry)) (now (used .entry)) (now (tick .entry))) (now (total .entry)) (now («next_alert_id» .entry)) (now («total_alerts» .entry))) (gooseFrameOf frame) .result)) ⌝ }
+pub extern "C" fn mokyndu_new_strict_in_place(m: &mut [u64; 1218])
+    ensures { λ _. ⌜ monitorOf (now (m .exit)) ≡ newMonitor true ⌝ }
 {
-    let message = goose_frame_of(frame);
-    let alerts = goose_checks(
-        message,
-        settings,
-        rule_macs,
-        rule_refs,
-        rule_lens,
-        rule_count,
-        cb_refs,
-        cb_lens,
-        cb_kinds,
-        cb_active,
-        cb_bound,
-        cb_macs,
-        clock_macs,
-        clock_seconds,
-        clock_fractions,
-        clock_active,
-        clock_used,
-        clock_tick,
-        src_macs,
-        hashes,
-        last_st_num,
-        last_sq_num,
-        last_seen_us,
-        active,
-        used,
-        tick,
-    );
-    let counters = AlertCounters {
-        next_alert_id: *next_alert_id,
-        total_alerts: *total_alerts,
-    };
-    let noted = verdict_on(
-        counters,
-        alerts,
-        SOURCE_IEC61850_GOOSE,
-        message.st_num,
-        message.timestamp_us,
-    );
-    let counted = noted.counters;
-    *total = saturating_increment(*total);
-    *next_alert_id = counted.next_alert_id;
-    *total_alerts = counted.total_alerts;
-    let octets = noted.verdict;
-    HostVerdict { octets: octets }
+    new_on(m, true);
 }
 
-// The verdict on an SV frame, in the columns of a monitor.
+// As new but for the settings.
 #[no_mangle]
-pub extern "C" fn mokyndu_inspect_sv_in<'a>(
-    frame: SvFrame,
-    settings: Settings,
-    rule_macs: &'a [u64; 16],
-    rule_svids: &'a [u8; 1024],
-    rule_lens: &'a [u8; 16],
-    rule_rates: &'a [u16; 16],
-    rule_count: u8,
-    cb_refs: &'a [u8; 1024],
-    cb_lens: &'a [u8; 16],
-    cb_kinds: &'a [bool; 16],
-    cb_active: &'a [bool; 16],
-    cb_bound: &'a mut [bool; 16],
-    cb_macs: &'a mut [u64; 16],
-    clock_macs: &'a mut [u64; 16],
-    clock_seconds: &'a mut [u32; 16],
-    clock_fractions: &'a mut [u32; 16],
-    clock_active: &'a mut [bool; 16],
-    clock_used: &'a mut [u32; 16],
-    clock_tick: &'a mut u32,
-    svids: &'a mut [u8; 1024],
-    svid_lens: &'a mut [u8; 16],
-    counts: &'a mut [u16; 16],
-    active: &'a mut [bool; 16],
-    used: &'a mut [u32; 16],
-    tick: &'a mut u32,
-    total: &'a mut u64,
-    next_alert_id: &'a mut u64,
-    total_alerts: &'a mut u64,
-) -> HostVerdict
-    ensures { λ _. ⌜ ((m : Iec61850Monitor) → (svMonitorOf m settings (record { «src_mac» = now («rule_macs» .entry); svid = record { octets = now («rule_svids» .entry); lens = now («rule_lens» .entry) }; «expected_smp_rate» = now («rule_rates» .entry); count = «rule_count» }) (cbTableOf (now («cb_refs» .entry)) (now («cb_lens» .entry)) (now («cb_kinds» .entry)) (m .«cb_reservations» .«owner_client_id») (now («cb_bound» .exit)) (now («cb_macs» .exit)) (now («cb_active» .entry))) (clockTableOf (now («clock_macs» .exit)) (now («clock_seconds» .exit)) (now («clock_fractions» .exit)) (now («clock_active» .exit)) (now («clock_used» .exit)) (now («clock_tick» .exit))) (svTableOf (now (svids .exit)) (now («svid_lens» .exit)) (now (counts .exit)) (now (active .exit)) (now (used .exit)) (now (tick .exit))) (now (total .exit)) (now («next_alert_id» .exit)) (now («total_alerts» .exit))) ≡ inspectSv (svMonitorOf m settings (record { «src_mac» = now («rule_macs» .entry); svid = record { octets = now («rule_svids» .entry); lens = now («rule_lens» .entry) }; «expected_smp_rate» = now («rule_rates» .entry); count = «rule_count» }) (cbTableOf (now («cb_refs» .entry)) (now («cb_lens» .entry)) (now («cb_kinds» .entry)) (m .«cb_reservations» .«owner_client_id») (now («cb_bound» .entry)) (now («cb_macs» .entry)) (now («cb_active» .entry))) (clockTableOf (now («clock_macs» .entry)) (now («clock_seconds» .entry)) (now («clock_fractions» .entry)) (now («clock_active» .entry)) (now («clock_used» .entry)) (now («clock_tick» .entry))) (svTableOf (now (svids .entry)) (now («svid_lens» .entry)) (now (counts .entry)) (now (active .entry)) (now (used .entry)) (now (tick .entry))) (now (total .entry)) (now («next_alert_id» .entry)) (now («total_alerts» .entry))) frame .monitor) ⌝ }
-    ensures { λ r. ⌜ ((m : Iec61850Monitor) → r .octets ≡ verdictOf (inspectSv (svMonitorOf m settings (record { «src_mac» = now («rule_macs» .entry); svid = record { octets = now («rule_svids» .entry); lens = now («rule_lens» .entry) }; «expected_smp_rate» = now («rule_rates» .entry); count = «rule_count» }) (cbTableOf (now («cb_refs» .entry)) (now («cb_lens» .entry)) (now («cb_kinds» .entry)) (m .«cb_reservations» .«owner_client_id») (now («cb_bound» .entry)) (now («cb_macs» .entry)) (now («cb_active» .entry))) (clockTableOf (now («clock_macs» .entry)) (now («clock_seconds» .entry)) (now («clock_fractions» .entry)) (now («clock_active» .entry)) (now («clock_used» .entry)) (now («clock_tick» .entry))) (svTableOf (now (svids .entry)) (now («svid_lens» .entry)) (now (counts .entry)) (now (active .entry)) (now (used .entry)) (now (tick .entry))) (now (total .entry)) (now («next_alert_id» .entry)) (now («total_alerts» .entry))) frame .result)) ⌝ }
+pub extern "C" fn mokyndu_reset_in_place(m: &mut [u64; 1218])
+    ensures { λ _. ⌜ monitorOf (now (m .exit)) ≡ resetMonitor (monitorOf (now (m .entry))) ⌝ }
 {
-    let rates = *rule_rates;
-    let alerts = sv_checks(
-        frame,
-        settings,
-        rule_macs,
-        rule_svids,
-        rule_lens,
-        rates,
-        rule_count,
-        cb_refs,
-        cb_lens,
-        cb_kinds,
-        cb_active,
-        cb_bound,
-        cb_macs,
-        clock_macs,
-        clock_seconds,
-        clock_fractions,
-        clock_active,
-        clock_used,
-        clock_tick,
-        svids,
-        svid_lens,
-        counts,
-        active,
-        used,
-        tick,
-    );
-    let counters = AlertCounters {
-        next_alert_id: *next_alert_id,
-        total_alerts: *total_alerts,
-    };
-    let noted = verdict_on(
-        counters,
-        alerts,
-        SOURCE_IEC61850_SV,
-        frame.smp_cnt as u32,
-        frame.timestamp_us,
-    );
-    let counted = noted.counters;
-    *total = saturating_increment(*total);
-    *next_alert_id = counted.next_alert_id;
-    *total_alerts = counted.total_alerts;
-    let octets = noted.verdict;
-    HostVerdict { octets: octets }
+    reset_on(m);
 }
 
-// The frame in the octets of an SV frame on the wire, and the error's number, 255 where it was read; the default frame beside an error.
+// Bit n of the mask allows the service of raw number n; 0 filters none.
 #[no_mangle]
-pub extern "C" fn mokyndu_parse_sv(octets: &[u8], timestamp_us: u64) -> HostParsed
-    ensures { λ r. ⌜ r ≡ hostParsed (svFrame (now (octets .entry)) «timestamp_us») ⌝ }
+pub extern "C" fn mokyndu_set_mms_service_mask_in_place(m: &mut [u64; 1218], mask: u16)
+    ensures { λ _. ⌜ monitorOf (now (m .exit)) ≡ setMmsServiceMask (monitorOf (now (m .entry))) mask ⌝ }
+{
+    set_mms_service_mask_on(m, mask);
+}
+
+// Whether all writes are refused.
+#[no_mangle]
+pub extern "C" fn mokyndu_set_mms_read_only_in_place(m: &mut [u64; 1218], read_only: u8)
+    ensures { λ _. ⌜ monitorOf (now (m .exit)) ≡ setMmsReadOnly (monitorOf (now (m .entry))) (flagOf «read_only») ⌝ }
+{
+    set_mms_read_only_on(m, read_only != 0);
+}
+
+// Whether GOOSE test frames are refused.
+#[no_mangle]
+pub extern "C" fn mokyndu_set_block_test_frames_in_place(m: &mut [u64; 1218], block: u8)
+    ensures { λ _. ⌜ monitorOf (now (m .exit)) ≡ setBlockTestFrames (monitorOf (now (m .entry))) (flagOf block) ⌝ }
+{
+    set_block_test_frames_on(m, block != 0);
+}
+
+// The largest gap of smpCnt that is accepted; 0 accepts any.
+#[no_mangle]
+pub extern "C" fn mokyndu_set_sv_max_smp_cnt_gap_in_place(m: &mut [u64; 1218], gap: u16)
+    ensures { λ _. ⌜ monitorOf (now (m .exit)) ≡ setSvMaxSmpCntGap (monitorOf (now (m .entry))) gap ⌝ }
+{
+    set_sv_max_smp_cnt_gap_on(m, gap);
+}
+
+// The schedule of retransmissions, and whether it is enforced.
+#[no_mangle]
+pub extern "C" fn mokyndu_set_retx_schedule_in_place(
+    m: &mut [u64; 1218],
+    schedule: RetxSchedule,
+    enforce: u8,
+)
+    ensures { λ _. ⌜ monitorOf (now (m .exit)) ≡ setRetxSchedule (monitorOf (now (m .entry))) schedule (flagOf enforce) ⌝ }
+{
+    set_retx_schedule_on(m, schedule, enforce != 0);
+}
+
+// How many seconds a clock may go ahead from one frame to the next; 0 for any.
+#[no_mangle]
+pub extern "C" fn mokyndu_set_time_max_forward_jump_s_in_place(m: &mut [u64; 1218], seconds: u32)
+    ensures { λ _. ⌜ monitorOf (now (m .exit)) ≡ setTimeMaxForwardJump (monitorOf (now (m .entry))) seconds ⌝ }
+{
+    set_time_max_forward_jump_s_on(m, seconds);
+}
+
+// Adds an MMS rule of a mask, write protection and a rate, 0 for no limit.
+#[no_mangle]
+pub extern "C" fn mokyndu_add_mms_rule_in_place(
+    m: &mut [u64; 1218],
+    service_mask: u16,
+    read_only: u8,
+    max_rate_per_sec: u16,
+) -> u8
+    ensures { λ r. ⌜ record { monitor = monitorOf (now (m .exit)); answer = r }
+        ≡ answered addedError (mmsAddedOn (monitorOf (now (m .entry))) «service_mask» (flagOf «read_only») «max_rate_per_sec») ⌝ }
+{
+    let answer = add_mms_rule_on(m, service_mask, read_only != 0, max_rate_per_sec);
+    added_error(answer)
+}
+
+// Adds a GOOSE publisher; an empty name fits any control block of the address.
+#[no_mangle]
+pub extern "C" fn mokyndu_add_goose_publisher_in_place(
+    m: &mut [u64; 1218],
+    src_mac: &[u8; 6],
+    go_cb_ref: &[u8],
+) -> u8
+    ensures { λ r. ⌜ record { monitor = monitorOf (now (m .exit)); answer = r }
+        ≡ answered addedError
+        (gooseAddedOn (monitorOf (now (m .entry))) (addressOf (now («src_mac» .entry))) (now («go_cb_ref» .entry))) ⌝ }
+{
+    let address = *src_mac;
+    let answer = add_goose_publisher_on(m, address_of(address), go_cb_ref);
+    added_error(answer)
+}
+
+// Binds an svID to an address; a rate of 0 is not compared.
+#[no_mangle]
+pub extern "C" fn mokyndu_add_sv_publisher_in_place(
+    m: &mut [u64; 1218],
+    src_mac: &[u8; 6],
+    svid: &[u8],
+    expected_smp_rate: u16,
+) -> u8
+    ensures { λ r. ⌜ record { monitor = monitorOf (now (m .exit)); answer = r }
+        ≡ answered addedError
+        (svAddedOn (monitorOf (now (m .entry))) (addressOf (now («src_mac» .entry))) (now (svid .entry)) «expected_smp_rate») ⌝ }
+{
+    let address = *src_mac;
+    let answer = add_sv_publisher_on(m, address_of(address), svid, expected_smp_rate);
+    added_error(answer)
+}
+
+// Inspects an MMS frame, lent as the octets of its struct.
+#[no_mangle]
+pub extern "C" fn mokyndu_mms_in_place(m: &mut [u64; 1218], frame: &[u8; 88]) -> HostVerdict
+    ensures { λ r. ⌜ record { monitor = monitorOf (now (m .exit)); answer = r .octets }
+        ≡ withVerdict (inspectMms (monitorOf (now (m .entry))) (mmsFrameOf (now (frame .entry)))) ⌝ }
+{
+    let verdict = mms_verdict_lent(m, frame);
+    HostVerdict { octets: verdict }
+}
+
+// Inspects a GOOSE frame.
+#[no_mangle]
+pub extern "C" fn mokyndu_goose_in_place(m: &mut [u64; 1218], frame: &[u8; 104]) -> HostVerdict
+    ensures { λ r. ⌜ record { monitor = monitorOf (now (m .exit)); answer = r .octets }
+        ≡ withVerdict (inspectGoose (monitorOf (now (m .entry))) (gooseFrameOf (now (frame .entry)))) ⌝ }
+{
+    let verdict = goose_verdict_lent(m, frame);
+    HostVerdict { octets: verdict }
+}
+
+// Inspects an SV frame.
+#[no_mangle]
+pub extern "C" fn mokyndu_sv_in_place(m: &mut [u64; 1218], frame: &[u8; 160]) -> HostVerdict
+    ensures { λ r. ⌜ record { monitor = monitorOf (now (m .exit)); answer = r .octets }
+        ≡ withVerdict (inspectSv (monitorOf (now (m .entry))) (svFrameOf (now (frame .entry)))) ⌝ }
+{
+    let verdict = sv_verdict_lent(m, frame);
+    HostVerdict { octets: verdict }
+}
+
+// Inspects a raw SV frame: the verdict, and the error's number. One that cannot be read leaves the monitor, and is not allowed.
+#[no_mangle]
+pub extern "C" fn mokyndu_raw_sv_in_place(
+    m: &mut [u64; 1218],
+    octets: &[u8],
+    timestamp_us: u64,
+) -> HostRawVerdict
+    ensures { λ r. ⌜ record { monitor = monitorOf (now (m .exit)); answer = (r .verdict .octets, r .error) }
+        ≡ answered rawVerdict (inspectRawSv (monitorOf (now (m .entry))) (now (octets .entry)) «timestamp_us») ⌝ }
 {
     let parsed = parse_sv(octets, timestamp_us);
     let answer = parsed.answer;
+    let error = parsed_error(answer);
+    let Parsed::Frame = answer else {
+        return HostRawVerdict {
+            verdict: HostVerdict { octets: [0; 8] },
+            error: error,
+        };
+    };
     let frame = parsed.frame;
-    HostParsed {
-        frame: frame,
-        error: parsed_error(answer),
+    let verdict = sv_verdict_on(m, frame);
+    HostRawVerdict {
+        verdict: HostVerdict { octets: verdict },
+        error: error,
     }
+}
+
+// Inspects many SV frames, writes a verdict for each, and answers how many there were: the frames as records of 160 octets, which is their C
+// layout, and the verdicts as 8 octets each. Whole records are inspected, as long as there is room for their verdicts.
+#[no_mangle]
+pub extern "C" fn mokyndu_sv_batch_in_place(
+    m: &mut [u64; 1218],
+    frames: &[u8],
+    verdicts: &mut [u8],
+) -> u64
+    ensures { λ r. ⌜ record { monitor = monitorOf (now (m .exit)); verdicts = now (verdicts .exit); count = r }
+        ≡ svBatch (monitorOf (now (m .entry))) (now (frames .entry)) (now (verdicts .entry)) ⌝ }
+{
+    inspect_sv_batch(m, frames, verdicts) as u64
+}
+
+// How many MMS frames were inspected.
+#[no_mangle]
+pub extern "C" fn mokyndu_mms_total_inspected_in_place(m: &[u64; 1218]) -> u64
+    ensures { λ r. ⌜ r ≡ mmsTotalInspected (monitorOf (now (m .entry))) ⌝ }
+{
+    total_on(m, MMS_TOTAL_INSPECTED)
+}
+
+// How many GOOSE frames were inspected.
+#[no_mangle]
+pub extern "C" fn mokyndu_goose_total_inspected_in_place(m: &[u64; 1218]) -> u64
+    ensures { λ r. ⌜ r ≡ gooseTotalInspected (monitorOf (now (m .entry))) ⌝ }
+{
+    total_on(m, GOOSE_TOTAL_INSPECTED)
+}
+
+// How many SV frames were inspected.
+#[no_mangle]
+pub extern "C" fn mokyndu_sv_total_inspected_in_place(m: &[u64; 1218]) -> u64
+    ensures { λ r. ⌜ r ≡ svTotalInspected (monitorOf (now (m .entry))) ⌝ }
+{
+    total_on(m, SV_TOTAL_INSPECTED)
+}
+
+// How many alerts there were.
+#[no_mangle]
+pub extern "C" fn mokyndu_total_alerts_in_place(m: &[u64; 1218]) -> u64
+    ensures { λ r. ⌜ r ≡ totalAlerts (monitorOf (now (m .entry))) ⌝ }
+{
+    total_on(m, TOTAL_ALERTS)
+}
+
+// 1 for a strict monitor.
+#[no_mangle]
+pub extern "C" fn mokyndu_strict_mode_in_place(m: &[u64; 1218]) -> u8
+    ensures { λ r. ⌜ r ≡ flagNumber (strictMode (monitorOf (now (m .entry)))) ⌝ }
+{
+    flag_number(flag_on(m, STRICT_MODE))
 }

@@ -1,23 +1,25 @@
-// The inspections as C exports: a frame of numbers, or the octets of an SV frame, and a verdict in numbers.
+// The inspections by value as C exports: a frame of numbers, or the octets of an SV frame, and the result in numbers.
 ghost use mathlib.Core.Path.{_≡_};
-ghost use lib.ListN.{length};
-ghost use Rattle.batch.specs.Batch.{batchCount, svAfter, svVerdicts};
+ghost use Rattle.wire.specs.Sv.{svFrame};
+ghost use Rattle.monitor.specs.Monitor.{monitorOf};
 ghost use Rattle.inspection.specs.InspectMms.{inspectMms};
 ghost use Rattle.inspection.specs.InspectGoose.{inspectGoose};
 ghost use Rattle.inspection.specs.InspectSv.{inspectSv, inspectRawSv};
 ghost use Rattle.host.specs.Frame.{mmsFrameOf, gooseFrameOf};
-ghost use Rattle.host.specs.Result.{hostInspected, hostRawInspected};
+ghost use Rattle.host.specs.Result.{hostResult, rawResult, hostParsed, answered};
+use crate::flag::parsed_error;
 use crate::frame::HostGooseFrame;
 use crate::frame::HostMmsFrame;
 use crate::frame::goose_frame_of;
 use crate::frame::mms_frame_of;
 use crate::result::HostInspected;
+use crate::result::HostParsed;
 use crate::result::HostRawInspected;
 use crate::result::host_inspected;
 use crate::result::host_raw_inspected;
-use batch::inspect_sv_batch;
-use inspection::monitor::Iec61850Monitor;
+use inspection::iec61850_monitor::Iec61850Monitor;
 use records::frame::SvFrame;
+use wire::sv::parse_sv;
 
 // The monitor after an MMS frame, and the result.
 #[no_mangle]
@@ -25,7 +27,8 @@ pub extern "C" fn mokyndu_inspect_mms(
     monitor: Iec61850Monitor,
     frame: HostMmsFrame,
 ) -> HostInspected
-    ensures { λ r. ⌜ r ≡ hostInspected (inspectMms monitor (mmsFrameOf frame)) ⌝ }
+    ensures { λ r. ⌜ record { monitor = monitorOf (r .monitor .words); answer = r .result }
+        ≡ answered hostResult (inspectMms (monitorOf (monitor .words)) (mmsFrameOf frame)) ⌝ }
 {
     let request = mms_frame_of(frame);
     let inspected = monitor.inspect_mms(request);
@@ -38,7 +41,8 @@ pub extern "C" fn mokyndu_inspect_goose(
     monitor: Iec61850Monitor,
     frame: HostGooseFrame,
 ) -> HostInspected
-    ensures { λ r. ⌜ r ≡ hostInspected (inspectGoose monitor (gooseFrameOf frame)) ⌝ }
+    ensures { λ r. ⌜ record { monitor = monitorOf (r .monitor .words); answer = r .result }
+        ≡ answered hostResult (inspectGoose (monitorOf (monitor .words)) (gooseFrameOf frame)) ⌝ }
 {
     let message = goose_frame_of(frame);
     let inspected = monitor.inspect_goose(message);
@@ -48,35 +52,37 @@ pub extern "C" fn mokyndu_inspect_goose(
 // The monitor after an SV frame, and the result.
 #[no_mangle]
 pub extern "C" fn mokyndu_inspect_sv(monitor: Iec61850Monitor, frame: SvFrame) -> HostInspected
-    ensures { λ r. ⌜ r ≡ hostInspected (inspectSv monitor frame) ⌝ }
+    ensures { λ r. ⌜ record { monitor = monitorOf (r .monitor .words); answer = r .result }
+        ≡ answered hostResult (inspectSv (monitorOf (monitor .words)) frame) ⌝ }
 {
     let inspected = monitor.inspect_sv(frame);
     host_inspected(inspected)
 }
 
-// The monitor after the octets of an SV frame, and the result; octets that cannot be read leave the monitor, and a clean result.
+// The monitor after the octets of an SV frame, and the result; octets that cannot be read leave the monitor, and are not allowed.
 #[no_mangle]
 pub extern "C" fn mokyndu_inspect_raw_sv(
     monitor: Iec61850Monitor,
     octets: &[u8],
     timestamp_us: u64,
 ) -> HostRawInspected
-    ensures { λ r. ⌜ r ≡ hostRawInspected (inspectRawSv monitor (now (octets .entry)) «timestamp_us») ⌝ }
+    ensures { λ r. ⌜ record { monitor = monitorOf (r .monitor .words); answer = (r .result, r .error) }
+        ≡ answered rawResult (inspectRawSv (monitorOf (monitor .words)) (now (octets .entry)) «timestamp_us») ⌝ }
 {
     let inspected = monitor.inspect_raw_sv(octets, timestamp_us);
     host_raw_inspected(inspected)
 }
 
-// The monitor after many SV frames, and a verdict for each: the frames as records of 160 octets, which is their C layout, and the
-// verdicts as 8 octets each. Whole records are inspected, as long as there is room for their verdicts.
+// The frame in the octets of an SV frame on the wire, and the error's number, 255 where it was read; the default frame beside an error.
 #[no_mangle]
-pub extern "C" fn mokyndu_inspect_sv_batch(
-    monitor: Iec61850Monitor,
-    frames: &[u8],
-    verdicts: &mut [u8],
-) -> Iec61850Monitor
-    ensures { λ r. ⌜ r ≡ svAfter monitor (now (frames .entry)) (batchCount (length (now (frames .entry))) (length (now (verdicts .entry)))) ⌝ }
-    ensures { λ _. ⌜ now (verdicts .exit) ≡ svVerdicts monitor (now (frames .entry)) (now (verdicts .entry)) (batchCount (length (now (frames .entry))) (length (now (verdicts .entry)))) ⌝ }
+pub extern "C" fn mokyndu_parse_sv(octets: &[u8], timestamp_us: u64) -> HostParsed
+    ensures { λ r. ⌜ r ≡ hostParsed (svFrame (now (octets .entry)) «timestamp_us») ⌝ }
 {
-    inspect_sv_batch(monitor, frames, verdicts)
+    let parsed = parse_sv(octets, timestamp_us);
+    let answer = parsed.answer;
+    let frame = parsed.frame;
+    HostParsed {
+        frame: frame,
+        error: parsed_error(answer),
+    }
 }

@@ -1,5 +1,5 @@
-// The monitor for a recorder that is written in C or Rust: its calls as C exports, over numbers, slices and structs of numbers.
-// Their C declarations stand in include/mokyndu.h.
+// The monitor for a recorder that is written in C, Rust or Python: its calls as C exports, over numbers, slices and structs of numbers,
+// each in place and most of them by value too. Their C declarations stand in include/mokyndu.h.
 pub mod flag;
 pub mod frame;
 pub mod in_place;

@@ -1,13 +1,15 @@
-// Answers as structs of numbers: alerts, results, and the monitor beside them.
+// Answers as structs of numbers: alerts, results, verdicts, and the monitor beside them.
 ghost use mathlib.Core.Path.{_≡_};
-ghost use Rattle.host.specs.Result.{hostAlert, hostResult, hostConfigured, hostInspected, hostRawInspected};
+ghost use Rattle.monitor.specs.Monitor.{monitorOf};
+ghost use Rattle.host.specs.Flag.{addedError};
+ghost use Rattle.host.specs.Result.{hostAlert, hostResult, rawResult, answered};
 use crate::flag::added_error;
 use crate::flag::flag_number;
 use crate::flag::parsed_error;
-use inspection::monitor::Configured;
-use inspection::monitor::Iec61850Monitor;
-use inspection::monitor::Inspected;
-use inspection::monitor::RawInspected;
+use inspection::iec61850_monitor::Configured;
+use inspection::iec61850_monitor::Iec61850Monitor;
+use inspection::iec61850_monitor::Inspected;
+use inspection::iec61850_monitor::RawInspected;
 use records::alert::CodedAlert;
 use records::frame::SvFrame;
 use records::result::InspectResult;
@@ -24,7 +26,7 @@ pub struct HostAlert {
     pub code: u8,
 }
 
-// A verdict, with its flags as numbers, 1 for true.
+// A result, with its flags as numbers, 1 for true.
 #[repr(C)]
 pub struct HostResult {
     pub allowed: u8,
@@ -60,6 +62,13 @@ pub struct HostRawInspected {
 #[repr(C)]
 pub struct HostVerdict {
     pub octets: [u8; 8],
+}
+
+// The verdict on a raw SV frame, and the error's number, 255 where the frame was read.
+#[repr(C)]
+pub struct HostRawVerdict {
+    pub verdict: HostVerdict,
+    pub error: u8,
 }
 
 // The frame read from octets, and the error's number, 255 where it was read.
@@ -113,7 +122,8 @@ pub fn host_result(found: InspectResult) -> HostResult
 
 // The answer of an add call in numbers.
 pub fn host_configured(c: Configured) -> HostConfigured
-    ensures { λ r. ⌜ r ≡ hostConfigured c ⌝ }
+    ensures { λ r. ⌜ record { monitor = monitorOf (r .monitor .words); answer = r .error }
+        ≡ answered addedError (record { monitor = monitorOf (c .monitor .words); answer = c .answer }) ⌝ }
 {
     let monitor = c.monitor;
     let answer = c.answer;
@@ -125,7 +135,8 @@ pub fn host_configured(c: Configured) -> HostConfigured
 
 // The answer of an inspection in numbers.
 pub fn host_inspected(i: Inspected) -> HostInspected
-    ensures { λ r. ⌜ r ≡ hostInspected i ⌝ }
+    ensures { λ r. ⌜ record { monitor = monitorOf (r .monitor .words); answer = r .result }
+        ≡ answered hostResult (record { monitor = monitorOf (i .monitor .words); answer = i .result }) ⌝ }
 {
     let monitor = i.monitor;
     let result = i.result;
@@ -138,11 +149,13 @@ pub fn host_inspected(i: Inspected) -> HostInspected
 
 // The answer of a raw frame's inspection in numbers.
 pub fn host_raw_inspected(i: RawInspected) -> HostRawInspected
-    ensures { λ r. ⌜ r ≡ hostRawInspected i ⌝ }
+    ensures { λ r. ⌜ record { monitor = monitorOf (r .monitor .words); answer = (r .result, r .error) }
+        ≡ answered rawResult (record { monitor = monitorOf (i .monitor .words); answer = i .raw }) ⌝ }
 {
-    let answer = i.answer;
     let monitor = i.monitor;
-    let result = i.result;
+    let raw = i.raw;
+    let answer = raw.answer;
+    let result = raw.result;
     let numbers = host_result(result);
     HostRawInspected {
         monitor: monitor,

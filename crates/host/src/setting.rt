@@ -1,19 +1,25 @@
-// A new monitor, the set and add calls, reset and the readers as C exports.
+// A new monitor, the set and add calls, reset and the readers by value as C exports.
 ghost use mathlib.Core.Path.{_≡_};
 ghost use mathlib.Core.Bool.{true, false};
-ghost use Rattle.inspection.specs.Monitor.{newMonitor, resetMonitor, mmsTotalInspected, gooseTotalInspected, svTotalInspected, totalAlerts, strictMode, setMmsServiceMask, setMmsReadOnly, setBlockTestFrames, setSvMaxSmpCntGap, setRetxSchedule, setTimeMaxForwardJump, addMmsRule, addGoosePublisher, addSvPublisher};
-ghost use Rattle.host.specs.Flag.{flagOf, flagNumber};
-ghost use Rattle.host.specs.Result.{hostConfigured};
+ghost use Rattle.monitor.specs.Monitor.{monitorOf};
+ghost use Rattle.monitor.specs.Parts.{mmsAddedOn, gooseAddedOn, svAddedOn};
+ghost use Rattle.monitor.specs.Reset.{newMonitor, resetMonitor};
+ghost use Rattle.monitor.specs.Settings.{setMmsServiceMask, setMmsReadOnly, setBlockTestFrames, setSvMaxSmpCntGap, setRetxSchedule};
+ghost use Rattle.monitor.specs.Settings.{setTimeMaxForwardJump, strictMode};
+ghost use Rattle.monitor.specs.Totals.{mmsTotalInspected, gooseTotalInspected, svTotalInspected, totalAlerts};
+ghost use Rattle.inspection.specs.Address.{addressOf};
+ghost use Rattle.host.specs.Flag.{flagOf, flagNumber, addedError};
+ghost use Rattle.host.specs.Result.{answered};
 use crate::flag::flag_number;
 use crate::result::HostConfigured;
 use crate::result::host_configured;
-use inspection::monitor::Iec61850Monitor;
+use inspection::iec61850_monitor::Iec61850Monitor;
 use records::schedule::RetxSchedule;
 
 // A monitor that is not strict.
 #[no_mangle]
 pub extern "C" fn mokyndu_new() -> Iec61850Monitor
-    ensures { λ r. ⌜ r ≡ newMonitor false ⌝ }
+    ensures { λ r. ⌜ monitorOf (r .words) ≡ newMonitor false ⌝ }
 {
     Iec61850Monitor::new()
 }
@@ -21,7 +27,7 @@ pub extern "C" fn mokyndu_new() -> Iec61850Monitor
 // A strict monitor.
 #[no_mangle]
 pub extern "C" fn mokyndu_new_strict() -> Iec61850Monitor
-    ensures { λ r. ⌜ r ≡ newMonitor true ⌝ }
+    ensures { λ r. ⌜ monitorOf (r .words) ≡ newMonitor true ⌝ }
 {
     Iec61850Monitor::new_strict()
 }
@@ -29,7 +35,7 @@ pub extern "C" fn mokyndu_new_strict() -> Iec61850Monitor
 // As new but for the settings.
 #[no_mangle]
 pub extern "C" fn mokyndu_reset(monitor: Iec61850Monitor) -> Iec61850Monitor
-    ensures { λ r. ⌜ r ≡ resetMonitor monitor ⌝ }
+    ensures { λ r. ⌜ monitorOf (r .words) ≡ resetMonitor (monitorOf (monitor .words)) ⌝ }
 {
     monitor.reset()
 }
@@ -40,7 +46,7 @@ pub extern "C" fn mokyndu_set_mms_service_mask(
     monitor: Iec61850Monitor,
     mask: u16,
 ) -> Iec61850Monitor
-    ensures { λ r. ⌜ r ≡ setMmsServiceMask monitor mask ⌝ }
+    ensures { λ r. ⌜ monitorOf (r .words) ≡ setMmsServiceMask (monitorOf (monitor .words)) mask ⌝ }
 {
     monitor.set_mms_service_mask(mask)
 }
@@ -51,7 +57,7 @@ pub extern "C" fn mokyndu_set_mms_read_only(
     monitor: Iec61850Monitor,
     read_only: u8,
 ) -> Iec61850Monitor
-    ensures { λ r. ⌜ r ≡ setMmsReadOnly monitor (flagOf «read_only») ⌝ }
+    ensures { λ r. ⌜ monitorOf (r .words) ≡ setMmsReadOnly (monitorOf (monitor .words)) (flagOf «read_only») ⌝ }
 {
     monitor.set_mms_read_only(read_only != 0)
 }
@@ -62,7 +68,7 @@ pub extern "C" fn mokyndu_set_block_test_frames(
     monitor: Iec61850Monitor,
     block: u8,
 ) -> Iec61850Monitor
-    ensures { λ r. ⌜ r ≡ setBlockTestFrames monitor (flagOf block) ⌝ }
+    ensures { λ r. ⌜ monitorOf (r .words) ≡ setBlockTestFrames (monitorOf (monitor .words)) (flagOf block) ⌝ }
 {
     monitor.set_block_test_frames(block != 0)
 }
@@ -73,7 +79,7 @@ pub extern "C" fn mokyndu_set_sv_max_smp_cnt_gap(
     monitor: Iec61850Monitor,
     gap: u16,
 ) -> Iec61850Monitor
-    ensures { λ r. ⌜ r ≡ setSvMaxSmpCntGap monitor gap ⌝ }
+    ensures { λ r. ⌜ monitorOf (r .words) ≡ setSvMaxSmpCntGap (monitorOf (monitor .words)) gap ⌝ }
 {
     monitor.set_sv_max_smp_cnt_gap(gap)
 }
@@ -85,7 +91,7 @@ pub extern "C" fn mokyndu_set_retx_schedule(
     schedule: RetxSchedule,
     enforce: u8,
 ) -> Iec61850Monitor
-    ensures { λ r. ⌜ r ≡ setRetxSchedule monitor schedule (flagOf enforce) ⌝ }
+    ensures { λ r. ⌜ monitorOf (r .words) ≡ setRetxSchedule (monitorOf (monitor .words)) schedule (flagOf enforce) ⌝ }
 {
     monitor.set_retx_schedule(schedule, enforce != 0)
 }
@@ -96,7 +102,7 @@ pub extern "C" fn mokyndu_set_time_max_forward_jump_s(
     monitor: Iec61850Monitor,
     seconds: u32,
 ) -> Iec61850Monitor
-    ensures { λ r. ⌜ r ≡ setTimeMaxForwardJump monitor seconds ⌝ }
+    ensures { λ r. ⌜ monitorOf (r .words) ≡ setTimeMaxForwardJump (monitorOf (monitor .words)) seconds ⌝ }
 {
     monitor.set_time_max_forward_jump_s(seconds)
 }
@@ -109,7 +115,8 @@ pub extern "C" fn mokyndu_add_mms_rule(
     read_only: u8,
     max_rate_per_sec: u16,
 ) -> HostConfigured
-    ensures { λ r. ⌜ r ≡ hostConfigured (addMmsRule monitor «service_mask» (flagOf «read_only») «max_rate_per_sec») ⌝ }
+    ensures { λ r. ⌜ record { monitor = monitorOf (r .monitor .words); answer = r .error }
+        ≡ answered addedError (mmsAddedOn (monitorOf (monitor .words)) «service_mask» (flagOf «read_only») «max_rate_per_sec») ⌝ }
 {
     let added = monitor.add_mms_rule(service_mask, read_only != 0, max_rate_per_sec);
     host_configured(added)
@@ -122,7 +129,8 @@ pub extern "C" fn mokyndu_add_goose_publisher(
     src_mac: &[u8; 6],
     go_cb_ref: &[u8],
 ) -> HostConfigured
-    ensures { λ r. ⌜ r ≡ hostConfigured (addGoosePublisher monitor (now («src_mac» .entry)) (now («go_cb_ref» .entry))) ⌝ }
+    ensures { λ r. ⌜ record { monitor = monitorOf (r .monitor .words); answer = r .error }
+        ≡ answered addedError (gooseAddedOn (monitorOf (monitor .words)) (addressOf (now («src_mac» .entry))) (now («go_cb_ref» .entry))) ⌝ }
 {
     let address = *src_mac;
     let added = monitor.add_goose_publisher(address, go_cb_ref);
@@ -137,7 +145,8 @@ pub extern "C" fn mokyndu_add_sv_publisher(
     svid: &[u8],
     expected_smp_rate: u16,
 ) -> HostConfigured
-    ensures { λ r. ⌜ r ≡ hostConfigured (addSvPublisher monitor (now («src_mac» .entry)) (now (svid .entry)) «expected_smp_rate») ⌝ }
+    ensures { λ r. ⌜ record { monitor = monitorOf (r .monitor .words); answer = r .error }
+        ≡ answered addedError (svAddedOn (monitorOf (monitor .words)) (addressOf (now («src_mac» .entry))) (now (svid .entry)) «expected_smp_rate») ⌝ }
 {
     let address = *src_mac;
     let added = monitor.add_sv_publisher(address, svid, expected_smp_rate);
@@ -147,7 +156,7 @@ pub extern "C" fn mokyndu_add_sv_publisher(
 // How many MMS frames were inspected.
 #[no_mangle]
 pub extern "C" fn mokyndu_mms_total_inspected(monitor: Iec61850Monitor) -> u64
-    ensures { λ r. ⌜ r ≡ mmsTotalInspected monitor ⌝ }
+    ensures { λ r. ⌜ r ≡ mmsTotalInspected (monitorOf (monitor .words)) ⌝ }
 {
     monitor.mms_total_inspected()
 }
@@ -155,7 +164,7 @@ pub extern "C" fn mokyndu_mms_total_inspected(monitor: Iec61850Monitor) -> u64
 // How many GOOSE frames were inspected.
 #[no_mangle]
 pub extern "C" fn mokyndu_goose_total_inspected(monitor: Iec61850Monitor) -> u64
-    ensures { λ r. ⌜ r ≡ gooseTotalInspected monitor ⌝ }
+    ensures { λ r. ⌜ r ≡ gooseTotalInspected (monitorOf (monitor .words)) ⌝ }
 {
     monitor.goose_total_inspected()
 }
@@ -163,7 +172,7 @@ pub extern "C" fn mokyndu_goose_total_inspected(monitor: Iec61850Monitor) -> u64
 // How many SV frames were inspected.
 #[no_mangle]
 pub extern "C" fn mokyndu_sv_total_inspected(monitor: Iec61850Monitor) -> u64
-    ensures { λ r. ⌜ r ≡ svTotalInspected monitor ⌝ }
+    ensures { λ r. ⌜ r ≡ svTotalInspected (monitorOf (monitor .words)) ⌝ }
 {
     monitor.sv_total_inspected()
 }
@@ -171,7 +180,7 @@ pub extern "C" fn mokyndu_sv_total_inspected(monitor: Iec61850Monitor) -> u64
 // How many alerts there were.
 #[no_mangle]
 pub extern "C" fn mokyndu_total_alerts(monitor: Iec61850Monitor) -> u64
-    ensures { λ r. ⌜ r ≡ totalAlerts monitor ⌝ }
+    ensures { λ r. ⌜ r ≡ totalAlerts (monitorOf (monitor .words)) ⌝ }
 {
     monitor.total_alerts()
 }
@@ -179,7 +188,7 @@ pub extern "C" fn mokyndu_total_alerts(monitor: Iec61850Monitor) -> u64
 // 1 for a strict monitor.
 #[no_mangle]
 pub extern "C" fn mokyndu_strict_mode(monitor: Iec61850Monitor) -> u8
-    ensures { λ r. ⌜ r ≡ flagNumber (strictMode monitor) ⌝ }
+    ensures { λ r. ⌜ r ≡ flagNumber (strictMode (monitorOf (monitor .words))) ⌝ }
 {
     flag_number(monitor.strict_mode())
 }

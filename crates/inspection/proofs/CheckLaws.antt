@@ -1,45 +1,27 @@
--- The checks of an inspection, one stage after another, from any monitor: they keep settings, rules and totals, and find at most three alerts.
+-- The checks of an inspection, one stage after another, from any monitor: they keep settings, rules, totals and sizes, and find at most three alerts.
 use Prim.Native.Nat.{ℕ, _≤_}
-use mathlib.Core.Bool.{Bool, true, false, _&&_, _||_, not}
+use mathlib.Core.Bool.{Bool, _&&_, not}
 use mathlib.Core.List.{List, [], _∷_, _++_}
-use mathlib.Core.Path.{_≡_, refl}
+use mathlib.Core.Path.{_≡_, refl, _∙_}
 use native.Mathlib.Omega.{arith}
 use lib.Dec.{eqb, ltb}
 use lib.ListN.{length, length-append}
-use Rattle.records.specs.declared.frame.MmsFrame.{MmsFrame}
-use Rattle.records.specs.declared.frame.GooseFrame.{GooseFrame}
-use Rattle.records.specs.declared.frame.SvFrame.{SvFrame}
-use Rattle.records.specs.Name.{nameOf}
-use Rattle.records.specs.Search.{isFound}
-use Rattle.records.specs.Service.{serviceNumber, isWrite}
 use Rattle.records.proofs.Booleans.{cond-holds}
-use Rattle.inspection.specs.declared.goose_seq.GooseChecked.{GooseChecked}
-use Rattle.inspection.specs.declared.monitor.Iec61850Monitor.{Iec61850Monitor}
-use Rattle.inspection.specs.declared.monitor.Rules.{Rules}
-use Rattle.inspection.specs.declared.monitor.Totals.{Totals}
-use Rattle.inspection.specs.declared.rate.RateChecked.{RateChecked}
-use Rattle.inspection.specs.declared.reservation.CbChecked.{CbChecked}
-use Rattle.inspection.specs.declared.reservation.Reserved.{Reserved}
-use Rattle.inspection.specs.declared.rules.RuleCheck.{RuleCheck}
-use Rattle.inspection.specs.declared.rules.RuleCheck.the-variants.{Refused, Rate}
-use Rattle.inspection.specs.declared.settings.Settings.{Settings}
-use Rattle.inspection.specs.declared.sv_seq.SvChecked.{SvChecked}
-use Rattle.inspection.specs.declared.sv_seq.SvSeqOutcome.{SvSeqOutcome}
-use Rattle.inspection.specs.declared.sv_seq.SvSeqOutcome.the-variants.{FirstSeen, Replay, ForwardGap, CycleWrap, SuspiciousSmpGap}
-use Rattle.inspection.specs.declared.time_field.TimeChecked.{TimeChecked}
-use Rattle.inspection.specs.Address.{addressOf}
-use Rattle.inspection.specs.GoosePublisher.{goosePublisher}
-use Rattle.inspection.specs.GooseSeq.{controlBlock, gooseKey, gooseTimed, gooseChecked, retxChecked}
-use Rattle.inspection.specs.InspectMms.{domainName, mmsReserved, mmsControl, mmsRated, mmsRate, mmsMask, mmsChecks}
-use Rattle.inspection.specs.InspectGoose.{goosePair, streamFindings, gooseStream, gooseClock, gooseTimeField, gooseBound, gooseReservation, gooseAllowed, blocked, gooseTest}
-use Rattle.inspection.specs.InspectSv.{svPair, rateFindings, countFindings, svCount, svClock, svTimeField, svBound, svReservation, svRuleCheck, svBinding}
-use Rattle.inspection.specs.Monitor.{withRates, withReservations, withClocks}
-use Rattle.inspection.specs.Rate.{rateChecked}
-use Rattle.inspection.specs.Report.{Finding, Checked, clockFindings, ended, permitted}
-use Rattle.inspection.specs.Reservation.{cbChecked, reserved, released}
-use Rattle.inspection.specs.SvPublisher.{svPublisher}
-use Rattle.inspection.specs.SvSeq.{svKey, svChecked}
-use Rattle.inspection.specs.TimeField.{timeChecked}
+use Rattle.checks.specs.declared.sv_seq.SvSeqOutcome.{SvSeqOutcome}
+use Rattle.checks.specs.declared.sv_seq.SvSeqOutcome.the-variants.{FirstSeen, Replay, ForwardGap, CycleWrap, SuspiciousSmpGap}
+use Rattle.monitor.specs.Monitor.{Monitor}
+use Rattle.monitor.specs.Parts.{After, svSeqOn, gooseSeqOn, timeFieldOn, rateOn, cbOn, reservedOn, releasedOn}
+use Rattle.monitor.specs.Settings.{timeMaxForwardJump, svMaxSmpCntGap}
+use Rattle.inspection.specs.declared.inspect_goose.GooseNumbers.{GooseNumbers}
+use Rattle.inspection.specs.declared.inspect_sv.SvNumbers.{SvNumbers}
+use Rattle.inspection.specs.declared.report.RuleCheck.{RuleCheck}
+use Rattle.inspection.specs.declared.report.RuleCheck.the-variants.{Refused, Rate}
+use Rattle.inspection.specs.InspectMms.{MmsRead, controlKey, mmsReserved, releases, mmsControl, mmsRated, mmsRate, mmsRule, mmsChecks}
+use Rattle.inspection.specs.InspectGoose.{GooseRead, streamKey, timedNumbers, streamFindings, retransmitted, gooseClock, gooseTimeField}
+use Rattle.inspection.specs.InspectGoose.{gooseReservation, gooseUnknown, gooseAllowed, blocked, gooseTest}
+use Rattle.inspection.specs.InspectSv.{SvRead, rateFindings, countFindings, svClock, svTimeField, svReservation, svRule, svBinding}
+use Rattle.inspection.specs.Report.{Finding, Checked, clockFindings, ended, permitted, unlessHijacked}
+use Rattle.inspection.proofs.SizeLaws.{sizes, sv-long, goose-long, time-long, rate-long, cb-long, reserved-long, released-long}
 
 -- ---- how many alerts
 
@@ -49,8 +31,8 @@ AtMost n findings = length findings ≤ n
 clock-few : (alert : Bool) → AtMost 1 (clockFindings alert)
 clock-few alert = cond-holds (AtMost 1) alert (omega arith) (omega arith)
 
-stream-few : (replay outside : Bool) → AtMost 1 (streamFindings replay outside)
-stream-few replay outside = cond-holds (AtMost 1) replay (omega arith) (cond-holds (AtMost 1) outside (omega arith) (omega arith))
+stream-few : (replay outside : Bool) → AtMost 2 (streamFindings replay outside)
+stream-few replay outside = cond-holds (AtMost 2) replay (omega arith) (cond-holds (AtMost 2) outside (omega arith) (omega arith))
 
 rate-few : (frameRate rate : ℕ) → AtMost 1 (rateFindings frameRate rate)
 unfolding rateFindings
@@ -67,117 +49,152 @@ count-few limit rates (SuspiciousSmpGap gap) h = omega arith
 both-few : (a b : List Finding) → AtMost 1 a → AtMost 2 b → AtMost 3 (a ++ b)
 both-few a b h k = rw (length-append a b) (omega arith)
 
+-- ---- what the checks keep
+
+-- settings, rules and sizes, which an inspection leaves as they are
+abbrev pub fixed : Monitor → List (List ℕ)
+fixed m = m .settings ∷ m .«mms_rules» ∷ m .«goose_publishers» ∷ m .«sv_publishers» ∷ sizes m ∷ []
+
+-- and the totals, in which it counts before the checks and after them
+abbrev pub Kept : Monitor → Monitor → Type 0
+Kept m m′ = m′ .totals ∷ fixed m′ ≡ m .totals ∷ fixed m
+
+module _ (m : Monitor) where
+  sv-seq-kept : (svid : List ℕ) (n : ℕ) → Kept m (svSeqOn m svid n .monitor)
+  unfolding svSeqOn
+  sv-seq-kept svid n = rw (sv-long (m .«sv_seq») svid n)
+
+  goose-seq-kept : (key : List ℕ) (new : (ℕ × ℕ) × ℕ) → Kept m (gooseSeqOn m key new .monitor)
+  unfolding gooseSeqOn
+  goose-seq-kept key new = rw (goose-long (m .«goose_seq») key new)
+
+  clock-kept : (limit address : ℕ) (pair : ℕ × ℕ) → Kept m (timeFieldOn m limit address pair .monitor)
+  unfolding timeFieldOn
+  clock-kept limit address pair = rw (time-long (m .«time_trackers») limit address pair)
+
+  bucket-kept : (key rate time : ℕ) → Kept m (rateOn m key rate time .monitor)
+  unfolding rateOn
+  bucket-kept key rate time = rw (rate-long (m .«rate_buckets») key rate time)
+
+  use-kept : (key : List ℕ) (address : ℕ) → Kept m (cbOn m key address .monitor)
+  unfolding cbOn
+  use-kept key address = rw (cb-long (m .«cb_reservations») key address)
+
+  reserved-kept : (key : List ℕ) (client : ℕ) → Kept m (reservedOn m key client .monitor)
+  unfolding reservedOn
+  reserved-kept key client = rw (reserved-long (m .«cb_reservations») key client)
+
+  released-kept : (key : List ℕ) (client : ℕ) → Kept m (releasedOn m key client)
+  unfolding releasedOn
+  released-kept key client = rw (released-long (m .«cb_reservations») key client)
+
 -- ---- stage by stage
 
-pub record Kept (s : Settings) (r : Rules) (t : Totals) (c : Checked) : Type 0 where
-  pub settings : c .monitor .settings ≡ s
-  pub rules : c .monitor .rules ≡ r
-  pub totals : c .monitor .totals ≡ t
-  pub few : length (c .findings) ≤ 3
+pub record Keeps (m : Monitor) (c : Checked) : Type 0 where
+  pub kept : Kept m (c .monitor)
+  pub few : length (c .answer) ≤ 3
 
--- a monitor with tables or reservations replaced has the same three parts, so what keeps its parts keeps the first one's
-abbrev pub Keeps : Iec61850Monitor → Checked → Type 0
-Keeps m c = Kept (m .settings) (m .rules) (m .totals) c
+-- a stage after a part was checked
+keeps-then : {m m′ : Monitor} {c : Checked} → Kept m m′ → Keeps m′ c → Keeps m c
+keeps-then e k = record { kept = k .kept ∙ e; few = k .few }
 
-ends : (m : Iec61850Monitor) (findings : List Finding) → AtMost 3 findings → Keeps m (ended m findings)
-ends m findings h = record { settings = refl; rules = refl; totals = refl; few = h }
+ends : (m : Monitor) (findings : List Finding) → AtMost 3 findings → Keeps m (ended m findings)
+ends m findings h = record { kept = refl; few = h }
 
-ends-refused : (m : Iec61850Monitor) (a : Finding) → Keeps m (ended m (a ∷ []))
+ends-refused : (m : Monitor) (a : Finding) → Keeps m (ended m (a ∷ []))
 ends-refused m a = ends m (a ∷ []) (omega arith)
 
-ends-clean : (m : Iec61850Monitor) → Keeps m (ended m [])
+ends-clean : (m : Monitor) → Keeps m (ended m [])
 ends-clean m = ends m [] (omega arith)
 
-mms-reserved : (m : Iec61850Monitor) (c : Reserved) → Keeps m (mmsReserved m c)
-mms-reserved m c = ends (withReservations m (c .table)) _ (cond-holds (AtMost 3) (c .taken) (omega arith) (omega arith))
-
-mms-control : (m : Iec61850Monitor) (f : MmsFrame) → Keeps m (mmsControl m f)
-unfolding mmsControl
-mms-control m f =
-    cond-holds (Keeps m) (eqb (serviceNumber (f .«service_type»)) 11)
-    (mms-reserved m (reserved (m .«cb_reservations») (domainName f) (f .«control_block_is_goose») (f .«client_id»)))
-    (cond-holds (Keeps m) (eqb (serviceNumber (f .«service_type»)) 12 || eqb (serviceNumber (f .«service_type»)) 10)
-    (ends-clean (withReservations m (released (m .«cb_reservations») (domainName f) (f .«control_block_is_goose») (f .«client_id»))))
-    (ends-clean m))
-
-mms-rated : (m : Iec61850Monitor) (f : MmsFrame) (c : RateChecked) → Keeps m (mmsRated m f c)
-mms-rated m f c = cond-holds (Keeps m) (c .allowed) (mms-control (withRates m (c .table)) f) (ends-refused (withRates m (c .table)) _)
-
-mms-rate : (m : Iec61850Monitor) (f : MmsFrame) (rate : ℕ) → Keeps m (mmsRate m f rate)
-unfolding mmsRate
-mms-rate m f rate =
-    cond-holds (Keeps m) (ltb 0 rate)
-    (mms-rated m f (rateChecked (m .«rate_buckets») (f .«invoke_id») rate (f .«timestamp_us»)))
-    (mms-control m f)
-
 -- the rules refuse, or checking goes on
-permits : (m : Iec61850Monitor) (next : ℕ → Checked) → ((rate : ℕ) → Keeps m (next rate)) → (answer : RuleCheck) → Keeps m (permitted m next answer)
+permits : (m : Monitor) (next : ℕ → Checked) → ((rate : ℕ) → Keeps m (next rate)) → (answer : RuleCheck) → Keeps m (permitted m next answer)
 permits m next h (Refused severity code) = ends-refused m _
 permits m next h (Rate rate) = h rate
 
-pub mms-kept : (m : Iec61850Monitor) (f : MmsFrame) → Keeps m (mmsChecks m f)
+mms-reserved : (c : After Bool) → Keeps (c .monitor) (mmsReserved c)
+mms-reserved c = ends (c .monitor) _ (cond-holds (AtMost 3) (c .answer) (omega arith) (omega arith))
+
+module _ (f : MmsRead) where
+  mms-control : (m : Monitor) → Keeps m (mmsControl f m)
+  unfolding mmsControl
+  mms-control m =
+      let key = controlKey f in
+      let client = f .numbers .«client_id» in
+      cond-holds (Keeps m) (eqb (f .numbers .service) 11)
+      (keeps-then (reserved-kept m key client) (mms-reserved (reservedOn m key client)))
+      (cond-holds (Keeps m) (releases (f .numbers .service))
+      (keeps-then (released-kept m key client) (ends-clean (releasedOn m key client)))
+      (ends-clean m))
+
+  mms-rated : (c : After Bool) → Keeps (c .monitor) (mmsRated f c)
+  mms-rated c = cond-holds (Keeps (c .monitor)) (c .answer) (mms-control (c .monitor)) (ends-refused (c .monitor) _)
+
+  mms-rate : (m : Monitor) (rate : ℕ) → Keeps m (mmsRate f rate m)
+  unfolding mmsRate
+  mms-rate m rate =
+      cond-holds (Keeps m) (ltb 0 rate)
+      (keeps-then (bucket-kept m (f .numbers .«invoke_id») rate (f .numbers .«timestamp_us»))
+      (mms-rated (rateOn m (f .numbers .«invoke_id») rate (f .numbers .«timestamp_us»))))
+      (mms-control m)
+
+pub mms-kept : (m : Monitor) (f : MmsRead) → Keeps m (mmsChecks m f)
 unfolding mmsChecks
-mms-kept m f = permits m (mmsRate m f) (mms-rate m f) (mmsMask (m .settings) (m .rules .mms) (f .«raw_service_type») (isWrite (f .«service_type»)))
+mms-kept m f = permits m (λ rate. mmsRate f rate m) (mms-rate f m) (mmsRule m (f .numbers .«raw_service_type») (f .numbers .write))
 
-goose-stream : (m : Iec61850Monitor) (before : List Finding) (outside : Bool) (c : GooseChecked) → AtMost 1 before → Keeps m (gooseStream m before outside c)
-goose-stream m before outside c h = record {
-  settings = refl;
-  rules = refl;
-  totals = refl;
-  few = both-few before (streamFindings (c .replay) outside) h (omega (arith, stream-few (c .replay) outside));
-}
+module _ (n : GooseNumbers) where
+  goose-clock : (c : After Bool) → Keeps (c .monitor) (gooseClock n c)
+  goose-clock c =
+      let stream = gooseSeqOn (c .monitor) (streamKey n) (timedNumbers n) in
+      let outside = retransmitted (c .monitor) n in
+      record {
+        kept = goose-seq-kept (c .monitor) (streamKey n) (timedNumbers n);
+        few = both-few (clockFindings (c .answer)) (streamFindings (stream .answer) outside) (clock-few (c .answer)) (stream-few (stream .answer) outside);
+      }
 
-goose-clock : (m : Iec61850Monitor) (f : GooseFrame) (c : TimeChecked) → Keeps m (gooseClock m f c)
-goose-clock m f c =
-    goose-stream (withClocks m (c .table)) (clockFindings (c .alert))
-    (retxChecked (m .settings .«retx_enforce») (m .settings .«retx_schedule») (m .«goose_seq») (gooseKey f) (gooseTimed f))
-    (gooseChecked (m .«goose_seq») (gooseKey f) (gooseTimed f)) (clock-few (c .alert))
+  pub goose-time-field : (m : Monitor) → Keeps m (gooseTimeField n m)
+  unfolding gooseTimeField
+  goose-time-field m =
+      keeps-then (clock-kept m (timeMaxForwardJump m) (n .address) (n .seconds, n .fraction))
+      (goose-clock (timeFieldOn m (timeMaxForwardJump m) (n .address) (n .seconds, n .fraction)))
 
-pub goose-time-field : (m : Iec61850Monitor) (f : GooseFrame) → Keeps m (gooseTimeField m f)
-unfolding gooseTimeField
-goose-time-field m f =
-    goose-clock m f (timeChecked (m .«time_trackers») (m .settings .«time_max_forward_jump_s») (addressOf (f .«src_mac»)) (goosePair f))
+  goose-bound : (c : After Bool) → Keeps (c .monitor) (unlessHijacked (gooseTimeField n) c)
+  goose-bound c = cond-holds (Keeps (c .monitor)) (c .answer) (ends-refused (c .monitor) _) (goose-time-field (c .monitor))
 
-goose-bound : (m : Iec61850Monitor) (f : GooseFrame) (c : CbChecked) → Keeps m (gooseBound m f c)
-goose-bound m f c = cond-holds (Keeps m) (c .hijack) (ends-refused (withReservations m (c .table)) _) (goose-time-field (withReservations m (c .table)) f)
-
-pub goose-kept : (m : Iec61850Monitor) (f : GooseFrame) → Keeps m (gooseTest m f)
+pub goose-kept : (m : Monitor) (f : GooseRead) → Keeps m (gooseTest m f)
 unfolding gooseTest gooseAllowed gooseReservation
 goose-kept m f =
-    cond-holds (Keeps m) (blocked (m .settings) f) (ends-refused m _)
-    (cond-holds (Keeps m) (ltb 0 (m .rules .goose .count) && not (isFound (goosePublisher (m .rules .goose) (addressOf (f .«src_mac»)) (controlBlock f))))
-    (ends-refused m _) (goose-bound m f (cbChecked (m .«cb_reservations») (controlBlock f) true (addressOf (f .«src_mac»)))))
+    cond-holds (Keeps m) (blocked m (f .numbers .test)) (ends-refused m _)
+    (cond-holds (Keeps m) (gooseUnknown m (f .numbers .address) (f .publisher)) (ends-refused m _)
+    (keeps-then (use-kept m (f .reservation) (f .numbers .address)) (goose-bound (f .numbers) (cbOn m (f .reservation) (f .numbers .address)))))
 
-sv-count : (m : Iec61850Monitor) (f : SvFrame) (rate : ℕ) (before : List Finding) (c : SvChecked) → AtMost 1 before → Keeps m (svCount m f rate before c)
-sv-count m f rate before c h = record {
-  settings = refl;
-  rules = refl;
-  totals = refl;
-  few =
-      both-few before (countFindings (m .settings .«sv_max_smp_cnt_gap») (rateFindings (f .«smp_rate») rate) (c .outcome)) h
-      (count-few (m .settings .«sv_max_smp_cnt_gap») (rateFindings (f .«smp_rate») rate) (c .outcome) (rate-few (f .«smp_rate») rate));
-}
+module _ (svid : List ℕ) (n : SvNumbers) (rate : ℕ) where
+  sv-clock : (c : After Bool) → Keeps (c .monitor) (svClock svid n rate c)
+  sv-clock c =
+      let stream = svSeqOn (c .monitor) svid (n .«smp_cnt») in
+      let rates = rateFindings (n .«smp_rate») rate in
+      let limit = svMaxSmpCntGap (stream .monitor) in
+      record {
+        kept = sv-seq-kept (c .monitor) svid (n .«smp_cnt»);
+        few =
+            both-few (clockFindings (c .answer)) (countFindings limit rates (stream .answer)) (clock-few (c .answer))
+            (count-few limit rates (stream .answer) (rate-few (n .«smp_rate») rate));
+      }
 
-sv-clock : (m : Iec61850Monitor) (f : SvFrame) (rate : ℕ) (c : TimeChecked) → Keeps m (svClock m f rate c)
-sv-clock m f rate c =
-    sv-count (withClocks m (c .table)) f rate (clockFindings (c .alert)) (svChecked (m .«sv_seq») (svKey f) (f .«smp_cnt»)) (clock-few (c .alert))
+  pub sv-time-field : (m : Monitor) → Keeps m (svTimeField svid n rate m)
+  unfolding svTimeField
+  sv-time-field m =
+      keeps-then (clock-kept m (timeMaxForwardJump m) (n .address) (n .seconds, n .fraction))
+      (sv-clock (timeFieldOn m (timeMaxForwardJump m) (n .address) (n .seconds, n .fraction)))
 
-pub sv-time-field : (m : Iec61850Monitor) (f : SvFrame) (rate : ℕ) → Keeps m (svTimeField m f rate)
-unfolding svTimeField
-sv-time-field m f rate =
-    sv-clock m f rate (timeChecked (m .«time_trackers») (m .settings .«time_max_forward_jump_s») (addressOf (f .«src_mac»)) (svPair f))
+  sv-bound : (c : After Bool) → Keeps (c .monitor) (unlessHijacked (svTimeField svid n rate) c)
+  sv-bound c = cond-holds (Keeps (c .monitor)) (c .answer) (ends-refused (c .monitor) _) (sv-time-field (c .monitor))
 
-sv-bound : (m : Iec61850Monitor) (f : SvFrame) (rate : ℕ) (c : CbChecked) → Keeps m (svBound m f rate c)
-sv-bound m f rate c = cond-holds (Keeps m) (c .hijack) (ends-refused (withReservations m (c .table)) _) (sv-time-field (withReservations m (c .table)) f rate)
-
-sv-reserved : (m : Iec61850Monitor) (f : SvFrame) (rate : ℕ) → Keeps m (svReservation m f rate)
+sv-reserved : (m : Monitor) (f : SvRead) (rate : ℕ) → Keeps m (svReservation f rate m)
 unfolding svReservation
 sv-reserved m f rate =
-    sv-bound m f rate (cbChecked (m .«cb_reservations») (nameOf (f .«dataset_ref») (f .«dataset_ref_len»)) false (addressOf (f .«src_mac»)))
+    keeps-then (use-kept m (f .dataset) (f .numbers .address)) (sv-bound (f .svid) (f .numbers) rate (cbOn m (f .dataset) (f .numbers .address)))
 
-pub sv-kept : (m : Iec61850Monitor) (f : SvFrame) → Keeps m (svBinding m f)
+pub sv-kept : (m : Monitor) (f : SvRead) → Keeps m (svBinding m f)
 unfolding svBinding
-sv-kept m f =
-    permits m (svReservation m f) (sv-reserved m f)
-    (svRuleCheck (m .settings .«strict_mode») (m .rules .sv .count) (m .rules .sv .«expected_smp_rate»)
-    (svPublisher (m .rules .sv) (addressOf (f .«src_mac»)) (svKey f)))
+sv-kept m f = permits m (λ rate. svReservation f rate m) (sv-reserved m f) (svRule m (f .numbers .address) (f .svid))

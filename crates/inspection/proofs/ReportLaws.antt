@@ -7,17 +7,19 @@ use native.Mathlib.Numerals.{add-one}
 use native.Mathlib.Omega.{arith}
 use borrow.Author.Tests.{lt-ltb}
 use lib.ListN.{length, set, take, length-set}
-use lib.Seq.{length-take-le, take-suc-set}
+use lib.Seq.{length-take-le, take-suc-set, getD-set-same, getD-set-other}
 use Rattle.records.specs.declared.alert.CodedAlert.{CodedAlert}
+use Rattle.records.specs.declared.result.AlertCounters.{AlertCounters}
+use Rattle.records.specs.declared.result.InspectResult.{InspectResult}
 use Rattle.records.specs.declared.result.Pushed.{Pushed}
 use Rattle.records.specs.Alert.{alertOf}
 use Rattle.records.specs.Counter.{saturated}
 use Rattle.records.specs.Result.{cleanResult, counted, withAlert, pushed}
-use Rattle.inspection.specs.declared.monitor.Iec61850Monitor.{Iec61850Monitor}
-use Rattle.inspection.specs.declared.monitor.Inspected.{Inspected}
+use Rattle.monitor.specs.Monitor.{Monitor}
+use Rattle.monitor.specs.Parts.{After}
+use Rattle.monitor.specs.Totals.{total, totalAlerts, alertCounters, withAlerts}
 use Rattle.inspection.specs.CallTheorems.{alertsIn, AtMostThree, nextNumber, numbersIn, numbersFrom}
-use Rattle.inspection.specs.Monitor.{totalAlerts}
-use Rattle.inspection.specs.Report.{Finding, Checked, reportedNext, reported}
+use Rattle.inspection.specs.Report.{Finding, Checked, reportedNext, alertsPushed, reported}
 
 -- what is read of each alert, codes or numbers, with one more alert in the next slot
 pub slots-more :
@@ -95,24 +97,43 @@ module _ (source sourceNumber time : ℕ) where
             ∙ rw (one .numbers n e) (append-assoc (numbersIn (alertsIn (p .result))) (numbersFrom n 1) (numbersFrom (n + 1) (length rest)));
       }
 
--- an inspection's alerts, numbered and counted from the monitor that its checks left
-pub record Reports (m : Iec61850Monitor) (i : Inspected) : Type 0 where
-  pub few : AtMostThree (i .result)
-  pub total : Grows saturating (totalAlerts m) (length (alertsIn (i .result))) (totalAlerts (i .monitor))
-  pub next : Grows wrapping (nextNumber m) (length (alertsIn (i .result))) (nextNumber (i .monitor))
-  pub numbers : (n : ℕ) → nextNumber m ≡ wrapping n → numbersIn (alertsIn (i .result)) ≡ numbersFrom n (length (alertsIn (i .result)))
+-- ---- the counters among the totals
 
-pub reports : (source sourceNumber time : ℕ) (c : Checked) → length (c .findings) ≤ 3 → Reports (c .monitor) (reported source sourceNumber time c)
-unfolding reported cleanResult
+module _ (m : Monitor) (counters : AlertCounters) where
+  pub frames-kept : (k : ℕ) → k < 3 → total (withAlerts m counters) k ≡ total m k
+  unfolding withAlerts
+  frames-kept k h =
+      getD-set-other (set (m .totals) 3 (counters .«next_alert_id»)) 4 k _ 0 (λ e. omega arith) ∙ getD-set-other (m .totals) 3 k _ 0 (λ e. omega arith)
+
+  module _ (z : length (m .totals) ≡ 5) where
+    next-set : nextNumber (withAlerts m counters) ≡ counters .«next_alert_id»
+    unfolding withAlerts
+    next-set =
+        getD-set-other (set (m .totals) 3 (counters .«next_alert_id»)) 4 3 _ 0 (λ e. omega arith) ∙ getD-set-same (m .totals) 3 _ 0 (omega arith)
+
+    total-set : totalAlerts (withAlerts m counters) ≡ counters .«total_alerts»
+    unfolding withAlerts
+    total-set = getD-set-same (set (m .totals) 3 (counters .«next_alert_id»)) 4 _ 0 (simp length-set (omega arith))
+
+-- an inspection's alerts, numbered and counted from the monitor that its checks left
+pub record Reports (m : Monitor) (i : After InspectResult) : Type 0 where
+  pub few : AtMostThree (i .answer)
+  pub total : length (m .totals) ≡ 5 → Grows saturating (totalAlerts m) (length (alertsIn (i .answer))) (totalAlerts (i .monitor))
+  pub next : length (m .totals) ≡ 5 → Grows wrapping (nextNumber m) (length (alertsIn (i .answer))) (nextNumber (i .monitor))
+  pub numbers : (n : ℕ) → nextNumber m ≡ wrapping n → numbersIn (alertsIn (i .answer)) ≡ numbersFrom n (length (alertsIn (i .answer)))
+
+pub reports : (source sourceNumber time : ℕ) (c : Checked) → length (c .answer) ≤ 3 → Reports (c .monitor) (reported source sourceNumber time c)
+unfolding reported alertsPushed cleanResult
 reports source sourceNumber time c h =
-    let start : Pushed = record { result = cleanResult source; counters = c .monitor .totals .alerts } in
-    let all = pushes-all source sourceNumber time start (c .findings) refl (omega arith) in
-    let r = reported source sourceNumber time c .result in
-    let count : r .«alert_count» ≡ length (c .findings) = omega (arith, all .count) in
+    let start : Pushed = record { result = cleanResult source; counters = alertCounters (c .monitor) } in
+    let all = pushes-all source sourceNumber time start (c .answer) refl (omega arith) in
+    let p = alertsPushed source sourceNumber time (alertCounters (c .monitor)) (c .answer) in
+    let r = p .result in
+    let count : r .«alert_count» ≡ length (c .answer) = omega (arith, all .count) in
     let size : length (alertsIn r) ≡ r .«alert_count» = length-take-le (r .«alert_count») (r .alerts) (omega (arith, all .size, count)) in
     record {
       few = record { counted = size; few = omega arith; whole = all .whole };
-      total = rw (size ∙ count) (all .total);
-      next = rw (size ∙ count) (all .next);
+      total = λ z n e. total-set (c .monitor) (p .counters) z ∙ all .total n e ∙ rw (size ∙ count);
+      next = λ z n e. next-set (c .monitor) (p .counters) z ∙ all .next n e ∙ rw (size ∙ count);
       numbers = rw (size ∙ count) (all .numbers);
     }

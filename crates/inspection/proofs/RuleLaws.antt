@@ -1,27 +1,25 @@
--- Laws of the add calls: what a call's tests tell of its answer, what the answer leaves, and names and lists stored.
+-- Laws of the add calls: what a call's tests tell of its answer, and how many rules it leaves.
 use Prim.Native.Nat.{ℕ, _+_, _≤_, _<_}
 use mathlib.Core.Bool.{Bool}
 use mathlib.Core.List.{List}
-use mathlib.Core.Path.{_≡_, refl, sym, _∙_, ap}
+use mathlib.Core.Logic.{by-cases}
+use mathlib.Core.Path.{_≡_, ap}
+use native.Mathlib.Decide.{decLt}
+use native.Mathlib.Omega.{arith}
 use borrow.Author.Tests.{lt-ltb, le-ltb, le-leb, lt-leb}
-use lib.ListN.{length, set}
+use lib.ListN.{length, getD, set, length-set, List·getD-eq-default}
+use lib.Seq.{getD-set-same}
 use Rattle.records.specs.declared.error.VsError.{VsError}
 use Rattle.records.specs.declared.error.VsError.the-variants.{ResourceExhausted, InvalidInput}
-use Rattle.records.specs.declared.name.Names.{Names}
-use Rattle.records.specs.Name.{padded, nameStored, withName}
-use Rattle.inspection.specs.declared.rules.Added.{Added}
-use Rattle.inspection.specs.declared.rules.Added.the-variants.{Rule, Error}
-use Rattle.inspection.specs.declared.mms_rule.MmsRules.{MmsRules}
-use Rattle.inspection.specs.declared.goose_publisher.GoosePublishers.{GoosePublishers}
-use Rattle.inspection.specs.declared.sv_publisher.SvPublishers.{SvPublishers}
-use Rattle.inspection.specs.declared.monitor.Iec61850Monitor.{Iec61850Monitor}
-use Rattle.inspection.specs.declared.monitor.Configured.{Configured}
-use Rattle.inspection.specs.Address.{addressOf}
-use Rattle.inspection.specs.Rules.{addAnswer, ifAdded}
-use Rattle.inspection.specs.MmsRule.{withMmsRule}
-use Rattle.inspection.specs.GoosePublisher.{withGoosePublisher}
-use Rattle.inspection.specs.SvPublisher.{withSvPublisher}
-use Rattle.inspection.specs.Monitor.{withRules, addMmsRule, addGoosePublisher, addSvPublisher}
+use Rattle.tables.specs.Column.{wordSet}
+use Rattle.tables.specs.Named.{keyStored}
+use Rattle.checks.specs.declared.rules.Added.{Added}
+use Rattle.checks.specs.declared.rules.Added.the-variants.{Rule, Error}
+use Rattle.checks.specs.GoosePublisher.{withGoosePublisher, gooseAdded}
+use Rattle.checks.specs.Keys.{flagWord, plainKey}
+use Rattle.checks.specs.MmsRule.{withMmsRule, mmsAdded}
+use Rattle.checks.specs.Rules.{ruleCount, addAnswer, ifAdded}
+use Rattle.checks.specs.SvPublisher.{withSvPublisher, svAdded}
 
 -- ---- the answer: a full list, a long name, and neither
 
@@ -40,96 +38,48 @@ module _ (count len : ℕ) where
 
 -- ---- what it leaves
 
-module _ {A : Type 0} {answer : Added} (new old : A) where
-  pub left-old : {e : VsError} → answer ≡ Error e → old ≡ ifAdded answer new old
-  left-old e = ap (λ (a : Added). ifAdded a new old) (sym e)
+-- a refused call leaves the list that was
+pub not-added : {A : Type 0} (put : List ℕ → A) (new old : List ℕ) (answer : Added) (e : VsError) → answer ≡ Error e → put (ifAdded answer new old) ≡ put old
+not-added put new old answer e h = ap (λ (a : Added). put (ifAdded a new old)) h
 
-  pub left-new : answer ≡ Rule → new ≡ ifAdded answer new old
-  left-new e = ap (λ (a : Added). ifAdded a new old) (sym e)
+-- a count that is set, also behind the end of a list, where there is none
+count-set : (l : List ℕ) (place n : ℕ) → n ≤ 16 → getD (set l place n) place 0 ≤ 16
+count-set l place n h =
+    by-cases (decLt place (length l))
+    (λ k. rw (getD-set-same l place n 0 k) h)
+    (λ k. rw (List·getD-eq-default (set l place n) 0 {n = place} (simp length-set (omega arith))) (omega arith))
 
--- ---- a publisher added, its name stored as padded octets and its length
+-- a list is given one more rule, behind the others, only where it is not full
+module _ (rules longer : List ℕ) (place len : ℕ) where
+  abbrev added : Added → List ℕ
+  added answer = ifAdded answer (set longer place (ruleCount (getD rules place 0) + 1)) rules
 
-name-kept :
-    (names : Names) (slot : ℕ) (name : List ℕ) {octets : List ℕ} {stored : Names}
-    → octets ≡ padded name (length name) → stored ≡ nameStored names slot octets (length name) → stored ≡ withName names slot name
-name-kept names slot name o e = e ∙ ap (λ (l : List ℕ). nameStored names slot l (length name)) o
+  counts-added : getD rules place 0 ≤ 16 → getD (added (addAnswer (getD rules place 0) len)) place 0 ≤ 16
+  counts-added h = go (decLt (getD rules place 0) 16)
+    where
+      left : (answer : Added) → getD rules place 0 < 16 → getD (added answer) place 0 ≤ 16
+      left Rule k = count-set longer place _ (omega arith)
+      left (Error e) k = h
 
-module _ (name : List ℕ) (l : length name ≤ 64) {octets : List ℕ} (o : octets ≡ padded name (length name)) {stored : Names} where
-  pub goose-added :
-      (p : GoosePublishers) (address : ℕ) → p .count < 16 → stored ≡ nameStored (p .«go_cb_ref») (p .count) octets (length name)
-      → record { «src_mac» = set (p .«src_mac») (p .count) address; «go_cb_ref» = stored; count = p .count + 1 }
-      ≡ ifAdded (addAnswer (p .count) (length name)) (withGoosePublisher p address name) p
-  unfolding withGoosePublisher
-  goose-added p address h e =
-      let kept = name-kept (p .«go_cb_ref») (p .count) name o e in
-      (λ i. record { «src_mac» = set (p .«src_mac») (p .count) address; «go_cb_ref» = kept i; count = p .count + 1 })
-      ∙ left-new _ _ (rule-fits _ _ h l)
+      go : Dec (getD rules place 0 < 16) → getD (added (addAnswer (getD rules place 0) len)) place 0 ≤ 16
+      go (yes k) = left (addAnswer (getD rules place 0) len) k
+      go (no k) = rw (list-full (getD rules place 0) len (omega arith)) h
 
-  pub sv-added :
-      (p : SvPublishers) (address rate : ℕ) → p .count < 16 → stored ≡ nameStored (p .svid) (p .count) octets (length name)
-      → record {
-        «src_mac» = set (p .«src_mac») (p .count) address;
-        svid = stored;
-        «expected_smp_rate» = set (p .«expected_smp_rate») (p .count) rate;
-        count = p .count + 1;
-      }
-      ≡ ifAdded (addAnswer (p .count) (length name)) (withSvPublisher p address name rate) p
-  unfolding withSvPublisher
-  sv-added p address rate h e =
-      let kept = name-kept (p .svid) (p .count) name o e in
-      (λ i. record {
-        «src_mac» = set (p .«src_mac») (p .count) address;
-        svid = kept i;
-        «expected_smp_rate» = set (p .«expected_smp_rate») (p .count) rate;
-        count = p .count + 1;
-      })
-      ∙ left-new _ _ (rule-fits _ _ h l)
+module _ (rules : List ℕ) where
+  pub mms-count : (mask : ℕ) (on : Bool) (rate : ℕ) → getD rules 48 0 ≤ 16 → getD (mmsAdded rules mask on rate .rules) 48 0 ≤ 16
+  unfolding mmsAdded withMmsRule
+  mms-count mask on rate =
+      let i = ruleCount (getD rules 48 0) in
+      counts-added rules (wordSet (wordSet (wordSet rules 0 i mask) 16 i (flagWord on)) 32 i rate) 48 0
 
--- ---- a list put back in its monitor
+  pub goose-count : (address : ℕ) (name : List ℕ) → getD rules 176 0 ≤ 16 → getD (gooseAdded rules address name .rules) 176 0 ≤ 16
+  unfolding gooseAdded withGoosePublisher
+  goose-count address name =
+      let i = ruleCount (getD rules 176 0) in
+      counts-added rules (keyStored (wordSet rules 0 i address) i (plainKey name)) 176 (length name)
 
-module _ {A : Type 0} (put : A → Iec61850Monitor) where
-  put-added : (answer : Added) (new old : A) → put (ifAdded answer new old) ≡ ifAdded answer (put new) (put old)
-  put-added Rule new old = refl
-  put-added (Error e) new old = refl
-
-  configured-so :
-      (answer : Added) (new old : A) {longer : A} {said : Added}
-      → longer ≡ ifAdded answer new old → said ≡ answer
-      → _≡_ {A = Configured} (record { monitor = put longer; answer = said }) (record { monitor = ifAdded answer (put new) (put old); answer = answer })
-  configured-so answer new old l s =
-      let monitors = ap put l ∙ put-added answer new old in
-      λ i. record { monitor = monitors i; answer = s i }
-
--- ---- the three add calls: the list made longer, and the answer
-
-module _ (m : Iec61850Monitor) {said : Added} where
-  pub mms-configured :
-      (mask : ℕ) (on : Bool) (rate : ℕ) {longer : MmsRules}
-      → longer ≡ ifAdded (addAnswer (m .rules .mms .count) 0) (withMmsRule (m .rules .mms) mask on rate) (m .rules .mms)
-      → said ≡ addAnswer (m .rules .mms .count) 0
-      → record { monitor = withRules m longer (m .rules .goose) (m .rules .sv); answer = said } ≡ addMmsRule m mask on rate
-  unfolding addMmsRule
-  mms-configured mask on rate l s = configured-so (λ (t : MmsRules). withRules m t (m .rules .goose) (m .rules .sv)) _ _ _ l s
-
-  module _ (mac name : List ℕ) {address : ℕ} (a : address ≡ addressOf mac) where
-    pub goose-configured :
-        {longer : GoosePublishers}
-        → longer ≡ ifAdded (addAnswer (m .rules .goose .count) (length name)) (withGoosePublisher (m .rules .goose) address name) (m .rules .goose)
-        → said ≡ addAnswer (m .rules .goose .count) (length name)
-        → record { monitor = withRules m (m .rules .mms) longer (m .rules .sv); answer = said } ≡ addGoosePublisher m mac name
-    unfolding addGoosePublisher
-    goose-configured l s =
-        let p = m .rules .goose in
-        let new : ℕ → GoosePublishers = λ k. ifAdded (addAnswer (p .count) (length name)) (withGoosePublisher p k name) p in
-        configured-so (λ (t : GoosePublishers). withRules m (m .rules .mms) t (m .rules .sv)) _ _ _ (l ∙ ap new a) s
-
-    pub sv-configured :
-        (rate : ℕ) {longer : SvPublishers}
-        → longer ≡ ifAdded (addAnswer (m .rules .sv .count) (length name)) (withSvPublisher (m .rules .sv) address name rate) (m .rules .sv)
-        → said ≡ addAnswer (m .rules .sv .count) (length name)
-        → record { monitor = withRules m (m .rules .mms) (m .rules .goose) longer; answer = said } ≡ addSvPublisher m mac name rate
-    unfolding addSvPublisher
-    sv-configured rate l s =
-        let p = m .rules .sv in
-        let new : ℕ → SvPublishers = λ k. ifAdded (addAnswer (p .count) (length name)) (withSvPublisher p k name rate) p in
-        configured-so (λ (t : SvPublishers). withRules m (m .rules .mms) (m .rules .goose) t) _ _ _ (l ∙ ap new a) s
+  pub sv-count : (address : ℕ) (svid : List ℕ) (rate : ℕ) → getD rules 192 0 ≤ 16 → getD (svAdded rules address svid rate .rules) 192 0 ≤ 16
+  unfolding svAdded withSvPublisher
+  sv-count address svid rate =
+      let i = ruleCount (getD rules 192 0) in
+      counts-added rules (wordSet (keyStored (wordSet rules 0 i address) i (plainKey svid)) 176 i rate) 192 (length svid)

@@ -1,589 +1,126 @@
--- Laws of an inspection: the alerts of its checks reported, what its rules say, and its checks in a row as the chain of stages of its definition.
-use Prim.Native.Nat.{ℕ, zero, suc, _+_, _*_, _≤_, _<_}
-use mathlib.Core.Bool.{Bool, true, false, _&&_, _||_, cond, not, false≢true}
-use mathlib.Core.List.{List, [], _∷_, _++_, append-nil, foldl, foldl-append}
+-- Laws of the stages of an inspection: each way out of a stage, as its definition has it.
+use Prim.Native.Nat.{ℕ}
+use mathlib.Core.Bool.{Bool, true, false, _&&_, not, cond}
+use mathlib.Core.List.{List, [], _∷_, _++_}
 use mathlib.Core.Path.{_≡_, refl, sym, ap, _∙_}
 use native.Mathlib.Omega.{arith}
-use borrow.Author.Tests.{lt-ltb, le-ltb, eq-eqb, ne-eqb}
-use lib.Dec.{eqb, ltb}
-use lib.ListN.{length, getD, set, length-append, List·getD-eq-default}
+use borrow.Author.Tests.{lt-ltb, eq-eqb, ne-eqb}
+use lib.Dec.{ltb}
+use lib.ListN.{getD}
 use Rattle.records.specs.declared.alert.AlertCode.{AlertCode}
-use Rattle.records.specs.declared.alert.AlertCode.the-variants.{PolicyViolation, SvRateAnomaly, CbHijack}
+use Rattle.records.specs.declared.alert.AlertCode.the-variants.{CbHijack, PolicyViolation, RateExceeded, SvRateAnomaly}
 use Rattle.records.specs.declared.alert.AlertSeverity.{AlertSeverity}
 use Rattle.records.specs.declared.alert.AlertSeverity.the-variants.{Medium, High}
-use Rattle.records.specs.declared.alert.CodedAlert.{CodedAlert}
 use Rattle.records.specs.declared.error.VsError.{VsError}
 use Rattle.records.specs.declared.frame.GooseFrame.{GooseFrame}
 use Rattle.records.specs.declared.frame.MmsFrame.{MmsFrame}
 use Rattle.records.specs.declared.frame.SvFrame.{SvFrame}
-use Rattle.records.specs.declared.result.AlertCounters.{AlertCounters}
 use Rattle.records.specs.declared.result.InspectResult.{InspectResult}
-use Rattle.records.specs.declared.result.Pushed.{Pushed}
+use Rattle.records.specs.declared.schedule.RetxSchedule.{RetxSchedule}
 use Rattle.records.specs.declared.search.Found.{Found}
-use Rattle.records.specs.declared.search.Found.the-variants.{At}
-use Rattle.records.specs.Alert.{severityNumber, denies, codeNumber, sourceMms, sourceGoose, sourceSv, noAlert, alertOf}
-use Rattle.records.specs.Counter.{saturated, wrapped}
+use Rattle.records.specs.Alert.{sourceSv}
 use Rattle.records.specs.Hash.{fnv1a}
-use Rattle.records.specs.Name.{nameOf, padded}
-use Rattle.records.specs.Result.{cleanResult, allowedWith, counted, withAlert, pushed}
-use Rattle.records.specs.Search.{isFound}
-use Rattle.records.specs.Verdict.{verdictOf}
+use Rattle.records.specs.Result.{cleanResult}
+use Rattle.records.specs.Search.{isFound, lastBelow}
 use Rattle.records.specs.Service.{serviceNumber, isWrite}
-use Rattle.records.proofs.Booleans.{and-true, and-false, and-both, answered, cond-yes, cond-no}
+use Rattle.records.proofs.Booleans.{and-true, and-false, and-yes, and-no, answered, cond-yes, cond-no}
 use Rattle.wire.specs.declared.sv.Parsed.{Parsed}
 use Rattle.wire.specs.declared.sv.Parsed.the-variants.{Frame, Error}
 use Rattle.wire.specs.declared.sv.ParsedSv.{ParsedSv}
 use Rattle.wire.specs.Sv.{svFrame}
-use Rattle.inspection.specs.declared.goose_seq.GooseSeqTable.{GooseSeqTable}
-use Rattle.inspection.specs.declared.goose_seq.GooseChecked.{GooseChecked}
-use Rattle.inspection.specs.declared.mms_rule.MmsRules.{MmsRules}
-use Rattle.inspection.specs.declared.monitor.Iec61850Monitor.{Iec61850Monitor}
-use Rattle.inspection.specs.declared.monitor.Inspected.{Inspected}
-use Rattle.inspection.specs.declared.rate.RateBuckets.{RateBuckets}
-use Rattle.inspection.specs.declared.rate.RateChecked.{RateChecked}
-use Rattle.inspection.specs.declared.report.CheckAlert.{CheckAlert}
-use Rattle.inspection.specs.declared.report.CheckAlerts.{CheckAlerts}
-use Rattle.inspection.specs.declared.report.Noted.{Noted}
-use Rattle.inspection.specs.declared.report.CheckAlert.the-variants.{Nothing, Refusal, Notice}
-use Rattle.inspection.specs.declared.reservation.CbReservations.{CbReservations}
-use Rattle.inspection.specs.declared.reservation.CbChecked.{CbChecked}
-use Rattle.inspection.specs.declared.reservation.Reserved.{Reserved}
-use Rattle.inspection.specs.declared.rules.RuleCheck.{RuleCheck}
-use Rattle.inspection.specs.declared.rules.RuleCheck.the-variants.{Refused, Rate}
-use Rattle.inspection.specs.declared.sv_publisher.PublisherMatch.the-variants.{Fits}
-use Rattle.inspection.specs.declared.sv_seq.SvChecked.{SvChecked}
-use Rattle.inspection.specs.declared.sv_seq.SvSeqOutcome.{SvSeqOutcome}
-use Rattle.inspection.specs.declared.sv_seq.SvSeqOutcome.the-variants.{FirstSeen, Replay, ForwardGap, CycleWrap, SuspiciousSmpGap}
-use Rattle.inspection.specs.declared.time_field.TimeChecked.{TimeChecked}
+use Rattle.checks.specs.declared.sv_publisher.PublisherMatch.{PublisherMatch}
+use Rattle.checks.specs.declared.sv_publisher.PublisherMatch.the-variants.{NotRegistered}
+use Rattle.checks.specs.declared.sv_seq.SvSeqOutcome.{SvSeqOutcome}
+use Rattle.checks.specs.declared.sv_seq.SvSeqOutcome.the-variants.{FirstSeen, Replay, ForwardGap, CycleWrap, SuspiciousSmpGap}
+use Rattle.checks.specs.GoosePublisher.{goosePublisher}
+use Rattle.checks.specs.GooseSeq.{retxChecked}
+use Rattle.checks.specs.Keys.{plainKey, reservationKey}
+use Rattle.checks.specs.SvPublisher.{svPublisher}
+use Rattle.checks.specs.SvSeq.{isReplay}
+use Rattle.monitor.specs.Monitor.{Monitor}
+use Rattle.monitor.specs.Parts.{After, svSeqOn, gooseSeqOn, timeFieldOn, rateOn, reservedOn, releasedOn}
+use Rattle.monitor.specs.Settings.{strictMode, retxEnforce, retxSchedule, timeMaxForwardJump, svMaxSmpCntGap}
+use Rattle.monitor.specs.Totals.{countedMms, countedGoose, countedSv}
+use Rattle.inspection.specs.declared.inspect_goose.GooseNumbers.{GooseNumbers}
+use Rattle.inspection.specs.declared.inspect_sv.SvNumbers.{SvNumbers}
+use Rattle.inspection.specs.declared.report.RuleCheck.{RuleCheck}
+use Rattle.inspection.specs.declared.report.RuleCheck.the-variants.{Refused, Rate}
 use Rattle.inspection.specs.Address.{addressOf}
-use Rattle.inspection.specs.GoosePublisher.{firstFitting, goosePublisher}
-use Rattle.inspection.specs.GooseSeq.{controlBlock, gooseTimed, retxCheckedIf, gooseCheckedIf}
-use Rattle.inspection.specs.InspectGoose.{goosePair, streamFindings, gooseTimeField, gooseBound, gooseReservation, gooseAllowed, blocked, gooseTest, inspectGoose, gooseRuleCheck}
-use Rattle.inspection.specs.InspectMms.{domainName, fullFindings, mmsReserved, mmsControl, mmsRated, mmsRate, mmsRule, mmsMask, mmsChecks, inspectMms, mmsFindings, cbControlled, cbControlledIf}
-use Rattle.inspection.specs.InspectSv.{svPair, rateFindings, countFindings, svTimeField, svRuleCheck, inspectSv, rawInspected, inspectRawSv, svBound, svReservation, svBinding, rateReached}
-use Rattle.inspection.specs.Monitor.{mmsTotalInspected, gooseTotalInspected, svTotalInspected, withTotals, countedMms, countedGoose, countedSv, withAlerts, withReservations, withRates, withClocks, withGooseStreams, withSvStreams}
-use Rattle.inspection.specs.Rate.{rateChecked, rateCheckedIf}
-use Rattle.inspection.specs.Report.{Finding, Checked, refusal, notice, clockFindings, firstFindings, ended, permitted, permits, rateGiven, withAllowed, reportedNext, reported, findingsOf, alertsOf, isNothing, noneFound, notedOf, allowedOctet, alertNoted}
-use Rattle.inspection.specs.Reservation.{reserved, released, cbCheckedIf}
-use Rattle.inspection.specs.SvPublisher.{lastFitting, svPublisher}
-use Rattle.inspection.specs.SvSeq.{svKey, isReplay, svChecked, svKeptCheckedIf}
-use Rattle.inspection.specs.TimeField.{timeCheckedIf}
-use Rattle.inspection.proofs.GooseSeqLaws.{withoutAges, retx-columns}
-use Rattle.inspection.proofs.ReportLaws.{pushes-one}
-use Rattle.inspection.proofs.SvSeqLaws.{kept-checked}
-
--- ---- report: alerts added one by one, and the counters put back
-
--- a check that found nothing has no alerts
-nothing-found : (a : CheckAlert) → isNothing a ≡ true → findingsOf a ≡ []
-nothing-found Nothing e = refl
-nothing-found (Refusal severity code) e = absurd (false≢true e)
-nothing-found (Notice severity code) e = absurd (false≢true e)
-
-pub none-found : (a : CheckAlerts) → noneFound (a .first) (a .second) (a .third) ≡ true → alertsOf a ≡ []
-none-found a e =
-    let x = and-both (isNothing (a .first)) _ e in
-    let y = and-both (isNothing (a .second)) _ (x .1) in
-    λ i. nothing-found (a .first) (x .0) i ++ (nothing-found (a .second) (y .0) i ++ nothing-found (a .third) (y .1) i)
-
-module _ (source sourceNumber time : ℕ) where
-  -- without an alert the result is clean
-  pub none-pushed :
-      (counters : AlertCounters) (a : CheckAlerts) {clean : InspectResult} {none : Bool}
-      → clean ≡ cleanResult source → none ≡ noneFound (a .first) (a .second) (a .third) → none ≡ true
-      → record { result = clean; counters = counters }
-      ≡ foldl (reportedNext source sourceNumber time) (record { result = cleanResult source; counters = counters }) (alertsOf a)
-  none-pushed counters a e n h =
-      (λ i. record { result = e i; counters = counters })
-      ∙ ap (λ (l : List Finding). foldl (reportedNext source sourceNumber time) (record { result = cleanResult source; counters = counters }) l)
-      (sym (none-found a (answered n h)))
-
-  -- the code refuses the result before it adds the alert
-  pub refusal-added :
-      (p : Pushed) (severity : AlertSeverity) (code : AlertCode)
-      → pushed (withAllowed (p .result) false) (p .counters) severity source sourceNumber time code
-      ≡ reportedNext source sourceNumber time p (refusal severity code)
-  refusal-added p severity code =
-      ap (λ (b : Bool). pushed (withAllowed (p .result) b) (p .counters) severity source sourceNumber time code) (sym (and-false (p .result .allowed)))
-
-  pub notice-added :
-      (p : Pushed) (severity : AlertSeverity) (code : AlertCode)
-      → pushed (p .result) (p .counters) severity source sourceNumber time code ≡ reportedNext source sourceNumber time p (notice severity code)
-  notice-added p severity code =
-      ap (λ (b : Bool). pushed (withAllowed (p .result) b) (p .counters) severity source sourceNumber time code) (sym (and-true (p .result .allowed)))
-
-  -- a result and the counters, with the alerts of one check's answer
-  abbrev alertsAdded : Pushed → CheckAlert → Pushed
-  alertsAdded p a = foldl (reportedNext source sourceNumber time) p (findingsOf a)
-
-  -- the alerts of the three answers, added to a clean result
-  pub three-pushed :
-      (counters : AlertCounters) (a : CheckAlerts) {clean : InspectResult} {one two three : Pushed}
-      → clean ≡ cleanResult source
-      → one ≡ alertsAdded (record { result = clean; counters = counters }) (a .first)
-      → two ≡ alertsAdded one (a .second)
-      → three ≡ alertsAdded two (a .third)
-      → three ≡ foldl (reportedNext source sourceNumber time) (record { result = cleanResult source; counters = counters }) (alertsOf a)
-  three-pushed counters a e x y z =
-      let start : InspectResult → Pushed = λ r. record { result = r; counters = counters } in
-      let first = x ∙ ap (λ (r : InspectResult). alertsAdded (start r) (a .first)) e in
-      let second = y ∙ ap (λ (p : Pushed). alertsAdded p (a .second)) first in
-      let third = z ∙ ap (λ (p : Pushed). alertsAdded p (a .third)) second in
-      let one-by-one = foldl-append _ _ (findingsOf (a .first)) _ ∙ foldl-append _ _ (findingsOf (a .second)) (findingsOf (a .third)) in
-      third ∙ sym one-by-one
-
-  -- the result and the counters with these alerts are the report
-  pub pushed-reported :
-      (m : Iec61850Monitor) (findings : List Finding) {p : Pushed}
-      → p ≡ foldl (reportedNext source sourceNumber time) (record { result = cleanResult source; counters = m .totals .alerts }) findings
-      → record { monitor = withAlerts m (p .counters); result = p .result } ≡ reported source sourceNumber time (ended m findings)
-  unfolding reported
-  pushed-reported m findings e = ap (λ (p : Pushed). record { monitor = withAlerts m (p .counters); result = p .result }) e
-
--- the verdict without an alert
-clean-noted :
-    (source : ℕ) (counters : AlertCounters)
-    → record { verdict = 1 ∷ 0 ∷ 0 ∷ 0 ∷ 0 ∷ 0 ∷ 0 ∷ 0 ∷ []; counters = counters }
-    ≡ notedOf (record { result = cleanResult source; counters = counters })
-unfolding verdictOf cleanResult noAlert alertOf
-clean-noted source counters = refl
-
-pub nothing-noted :
-    (source number time : ℕ) (counters : AlertCounters) (a : CheckAlerts)
-    → noneFound (a .first) (a .second) (a .third) ≡ true
-    → record { verdict = 1 ∷ 0 ∷ 0 ∷ 0 ∷ 0 ∷ 0 ∷ 0 ∷ 0 ∷ []; counters = counters }
-    ≡ notedOf (foldl (reportedNext source number time) (record { result = cleanResult source; counters = counters }) (alertsOf a))
-nothing-noted source number time counters a e =
-    clean-noted source counters
-    ∙ ap (λ (l : List Finding). notedOf (foldl (reportedNext source number time) (record { result = cleanResult source; counters = counters }) l))
-    (sym (none-found a e))
-
--- a verdict with one more alert, as the code puts its octets
-pub alert-put :
-    (n : Noted) (f : Finding) {octet code severity next total : ℕ}
-    → getD (n .verdict) 1 0 < 3
-    → octet ≡ allowedOctet (getD (n .verdict) 0 0) (f .severity) (f .refuses)
-    → code ≡ codeNumber (f .code)
-    → severity ≡ severityNumber (f .severity)
-    → next ≡ wrapped (n .counters .«next_alert_id»)
-    → total ≡ saturated (n .counters .«total_alerts»)
-    → (let count = getD (n .verdict) 1 0 in
-    record {
-      verdict = set (set (set (set (n .verdict) 0 octet) 1 (count + 1)) (2 + 2 * count) code) (2 + 2 * count + 1) severity;
-      counters = record { «next_alert_id» = next; «total_alerts» = total };
-    })
-    ≡ alertNoted n f
-unfolding alertNoted counted
-alert-put n f h o c s x t =
-    let count = getD (n .verdict) 1 0 in
-    (λ i. record {
-      verdict = set (set (set (set (n .verdict) 0 (o i)) 1 (count + 1)) (2 + 2 * count) (c i)) (2 + 2 * count + 1) (s i);
-      counters = record { «next_alert_id» = x i; «total_alerts» = t i };
-    })
-    ∙ sym (cond-yes _ _ (lt-ltb _ _ h))
-
--- a verdict with three alerts is left
-pub alert-left : (n : Noted) (f : Finding) → 3 ≤ getD (n .verdict) 1 0 → n ≡ alertNoted n f
-unfolding alertNoted
-alert-left n f h = sym (cond-no _ _ (le-ltb _ _ h))
-
--- the octet after an alert is that of the flag after it
-flag-octet :
-    (allowed refuses denied : Bool)
-    → _≡_ {A = ℕ} (cond (refuses || denied) 0 (cond allowed 1 0)) (cond ((allowed && not refuses) && not denied) 1 0)
-flag-octet true true denied = refl
-flag-octet true false true = refl
-flag-octet true false false = refl
-flag-octet false true denied = refl
-flag-octet false false true = refl
-flag-octet false false false = refl
-
--- what holds of every four holds of a list of length 4
-of-four : {A : Type 0} (P : List A → Type 0) → ((x y z w : A) → P (x ∷ y ∷ z ∷ w ∷ [])) → (l : List A) → length l ≡ 4 → P l
-of-four P h [] e = absurd (omega (arith, e))
-of-four P h (x ∷ []) e = absurd (omega (arith, e))
-of-four P h (x ∷ y ∷ []) e = absurd (omega (arith, e))
-of-four P h (x ∷ y ∷ z ∷ []) e = absurd (omega (arith, e))
-of-four P h (x ∷ y ∷ z ∷ w ∷ []) e = h x y z w
-of-four P h (x ∷ y ∷ z ∷ w ∷ v ∷ l) e = absurd (omega (arith, e))
-
--- a check's answer has one alert at most, three have three
-one-at-most : (a : CheckAlert) → length (findingsOf a) ≤ 1
-one-at-most Nothing = omega arith
-one-at-most (Refusal severity code) = omega arith
-one-at-most (Notice severity code) = omega arith
-
-at-most-three : (a : CheckAlerts) → length (alertsOf a) ≤ 3
-at-most-three a =
-    let x = one-at-most (a .first) in
-    let y = one-at-most (a .second) in
-    let z = one-at-most (a .third) in
-    simp length-append (omega (arith, x, y, z))
-
-module _ (source number time : ℕ) where
-  -- an alert noted in each of the three places
-  module _ (allowed truncated : Bool) (kind : ℕ) (counters : AlertCounters) where
-    abbrev with-slots : ℕ → List CodedAlert → Pushed
-    with-slots count alerts = record {
-      result = record { allowed = allowed; «alert_count» = count; «source_type» = kind; alerts = alerts; «alerts_truncated» = truncated };
-      counters = counters;
-    }
-
-    noted-at :
-        (f : Finding) (count : ℕ) (x y z w : CodedAlert) → count ≤ 2
-        → alertNoted (notedOf (with-slots count (x ∷ y ∷ z ∷ w ∷ []))) f ≡ notedOf (reportedNext source number time (with-slots count (x ∷ y ∷ z ∷ w ∷ [])) f)
-    unfolding alertNoted verdictOf pushed withAlert allowedWith alertOf
-    noted-at f zero x y z w h =
-        λ i. record {
-          verdict =
-              flag-octet allowed (f .refuses) (denies (f .severity)) i
-              ∷ 1 ∷ codeNumber (f .code) ∷ severityNumber (f .severity)
-              ∷ codeNumber (y .code) ∷ severityNumber (y .alert .severity)
-              ∷ codeNumber (z .code) ∷ severityNumber (z .alert .severity) ∷ [];
-          counters = counted counters;
-        }
-    noted-at f (suc zero) x y z w h =
-        λ i. record {
-          verdict =
-              flag-octet allowed (f .refuses) (denies (f .severity)) i
-              ∷ 2 ∷ codeNumber (x .code) ∷ severityNumber (x .alert .severity)
-              ∷ codeNumber (f .code) ∷ severityNumber (f .severity)
-              ∷ codeNumber (z .code) ∷ severityNumber (z .alert .severity) ∷ [];
-          counters = counted counters;
-        }
-    noted-at f (suc (suc zero)) x y z w h =
-        λ i. record {
-          verdict =
-              flag-octet allowed (f .refuses) (denies (f .severity)) i
-              ∷ 3 ∷ codeNumber (x .code) ∷ severityNumber (x .alert .severity)
-              ∷ codeNumber (y .code) ∷ severityNumber (y .alert .severity)
-              ∷ codeNumber (f .code) ∷ severityNumber (f .severity) ∷ [];
-          counters = counted counters;
-        }
-    noted-at f (suc (suc (suc count))) x y z w h = absurd (omega (arith, h))
-
-  -- an alert noted in a verdict is noted in the verdict of the result with the alert
-  noted-next :
-      (p : Pushed) (f : Finding)
-      → p .result .«alert_count» ≤ 2 → length (p .result .alerts) ≡ 4 → alertNoted (notedOf p) f ≡ notedOf (reportedNext source number time p f)
-  noted-next p f h e =
-      let r = p .result in
-      let q : List CodedAlert → Pushed = with-slots (r .allowed) (r .«alerts_truncated») (r .«source_type») (p .counters) (r .«alert_count») in
-      of-four (λ (l : List CodedAlert). alertNoted (notedOf (q l)) f ≡ notedOf (reportedNext source number time (q l) f))
-      (λ x y z w. noted-at (r .allowed) (r .«alerts_truncated») (r .«source_type») (p .counters) f (r .«alert_count») x y z w h)
-      (r .alerts) e
-
-  -- up to three alerts noted one by one
-  noted-all :
-      (p : Pushed) (l : List Finding)
-      → p .result .«alert_count» + length l ≤ 3 → length (p .result .alerts) ≡ 4
-      → foldl alertNoted (notedOf p) l ≡ notedOf (foldl (reportedNext source number time) p l)
-  noted-all p [] h e = refl
-  noted-all p (f ∷ rest) h e =
-      let one = pushes-one source number time p f e (omega arith) in
-      ap (λ (n : Noted). foldl alertNoted n rest) (noted-next p f (omega arith) e)
-      ∙ noted-all (reportedNext source number time p f) rest (omega (arith, one .count)) (one .size)
-
-  -- the verdict and the counters with the alerts of the three answers, from those without an alert
-  pub three-noted :
-      (counters : AlertCounters) (a : CheckAlerts) {one two three : Noted}
-      → one ≡ foldl alertNoted (record { verdict = 1 ∷ 0 ∷ 0 ∷ 0 ∷ 0 ∷ 0 ∷ 0 ∷ 0 ∷ []; counters = counters }) (findingsOf (a .first))
-      → two ≡ foldl alertNoted one (findingsOf (a .second))
-      → three ≡ foldl alertNoted two (findingsOf (a .third))
-      → three ≡ notedOf (foldl (reportedNext source number time) (record { result = cleanResult source; counters = counters }) (alertsOf a))
-  unfolding cleanResult
-  three-noted counters a x y z =
-      let second = y ∙ ap (λ (n : Noted). foldl alertNoted n (findingsOf (a .second))) x in
-      let third = z ∙ ap (λ (n : Noted). foldl alertNoted n (findingsOf (a .third))) second in
-      let one-by-one = foldl-append _ _ (findingsOf (a .first)) _ ∙ foldl-append _ _ (findingsOf (a .second)) (findingsOf (a .third)) in
-      third
-      ∙ sym one-by-one
-      ∙ ap (λ (n : Noted). foldl alertNoted n (alertsOf a)) (clean-noted source counters)
-      ∙ noted-all (record { result = cleanResult source; counters = counters }) (alertsOf a) (omega (arith, at-most-three a)) refl
-
--- the monitor and the verdict that report the alerts are those of the inspection
-module _
-    (after : Iec61850Monitor) {p : Pushed} {q : Noted} {i : Inspected}
-    (r : q ≡ notedOf p) (e : record { monitor = withAlerts after (p .counters); result = p .result } ≡ i) where
-  pub noted-after : withAlerts after (q .counters) ≡ i .monitor
-  noted-after = ap (λ (x : Noted). withAlerts after (x .counters)) r ∙ ap (λ (x : Inspected). x .monitor) e
-
-  pub noted-verdict : q .verdict ≡ verdictOf (i .result)
-  noted-verdict = ap (λ (x : Noted). x .verdict) r ∙ ap (λ (x : Inspected). verdictOf (x .result)) e
-
--- ---- MMS: the rules, the bucket, and the control action by the service's number
+use Rattle.inspection.specs.InspectGoose.{streamFindings, streamKey, timedNumbers, retransmitted, gooseStream, gooseClock, gooseTimeField}
+use Rattle.inspection.specs.InspectGoose.{gooseUnknown, controlBlock, gooseRead, gooseReadWith, gooseTest, checkedGoose}
+use Rattle.inspection.specs.InspectMms.{MmsRead, controlKey, fullFindings, mmsReserved, releases, mmsControl, mmsRated, mmsRate}
+use Rattle.inspection.specs.InspectMms.{mmsRead, mmsReadWith, mmsChecks, checkedMms}
+use Rattle.inspection.specs.InspectSv.{rateFindings, countFindings, svCount, svClock, svTimeField, svMatched, svRule}
+use Rattle.inspection.specs.InspectSv.{svidOf, datasetOf, svRead, svReadWith, svBinding, checkedSv, inspectSv, rawInspected, inspectRawSv}
+use Rattle.inspection.specs.Report.{Finding, Checked, refusal, clockFindings, ended, unlessHijacked, permitted, withAllowed}
 
 pub nonzero : (n : ℕ) → ¬ (n ≡ 0) → ltb 0 n ≡ true
 nonzero n d = lt-ltb 0 n (omega (arith, d))
 
--- a place past the rules has none
-pub rule-past :
-    (rules : MmsRules) (strict write : Bool) (i : ℕ)
-    → length (rules .«read_only») ≡ 16 → length (rules .«max_rate_per_sec») ≡ 16 → 16 ≤ i → Rate 0 ≡ mmsRule strict rules write (At i)
-rule-past rules strict write i l m h =
-    rw (List·getD-eq-default (rules .«read_only») false {n = i} (omega arith), List·getD-eq-default (rules .«max_rate_per_sec») 0 {n = i} (omega arith))
+-- ---- any kind of frame
 
--- the control action, by the service's number
-module _ (r : CbReservations) (f : MmsFrame) where
-  module _ {n : ℕ} (e : n ≡ serviceNumber (f .«service_type»)) where
-    pub select-reserves :
-        {c : Reserved} → n ≡ 11 → c ≡ reserved r (domainName f) (f .«control_block_is_goose») (f .«client_id») → c ≡ cbControlled r f
-    unfolding cbControlled
-    select-reserves h q = q ∙ sym (cond-yes _ _ (eq-eqb _ _ (sym e ∙ h)))
+-- checking ends here, with these alerts
+pub ends : (m : Monitor) {a b : List Finding} → a ≡ b → record { monitor = m; answer = a } ≡ ended m b
+ends m e = ap (ended m) e
 
-    module _ (d : ¬ (n ≡ 11)) {x : Bool} (q : x ≡ (eqb n 12 || eqb n 10)) where
-      not-select : eqb (serviceNumber (f .«service_type»)) 11 ≡ false
-      not-select = ne-eqb _ _ (λ h. d (e ∙ h))
+-- a frame of an address that its reservation is not bound to, and any other
+module _ (next : Monitor → Checked) {m : Monitor} {hijack : Bool} {c : After Bool} (e : record { monitor = m; answer = hijack } ≡ c) where
+  pub hijack-ends :
+      {a : List Finding} → hijack ≡ true → a ≡ refusal High CbHijack ∷ [] → record { monitor = m; answer = a } ≡ unlessHijacked next c
+  hijack-ends h q = ends m q ∙ sym (cond-yes _ _ h) ∙ ap (unlessHijacked next) e
 
-      by-number : x ≡ (eqb (serviceNumber (f .«service_type»)) 12 || eqb (serviceNumber (f .«service_type»)) 10)
-      by-number = q ∙ ap (λ (k : ℕ). eqb k 12 || eqb k 10) e
+  pub hijack-passed : {r : Checked} → hijack ≡ false → r ≡ next m → r ≡ unlessHijacked next c
+  hijack-passed h q = q ∙ sym (cond-no _ _ h) ∙ ap (unlessHijacked next) e
 
-      pub control-releases :
-          {t : CbReservations} → x ≡ true → t ≡ released r (domainName f) (f .«control_block_is_goose») (f .«client_id»)
-          → record { table = t; taken = true } ≡ cbControlled r f
-      unfolding cbControlled
-      control-releases h p = (λ i. record { table = p i; taken = true }) ∙ sym (cond-no _ _ not-select ∙ cond-yes _ _ (answered by-number h))
+-- what the rules say: refused, or a rate
+module _ (m : Monitor) (next : ℕ → Checked) {rule check : RuleCheck} (e : rule ≡ check) where
+  pub rules-refuse :
+      (severity : AlertSeverity) (code : AlertCode) {a : List Finding} → rule ≡ Refused severity code → a ≡ refusal severity code ∷ []
+      → record { monitor = m; answer = a } ≡ permitted m next check
+  rules-refuse severity code q h = ends m h ∙ ap (permitted m next) (sym q ∙ e)
 
-      pub no-control : x ≡ false → record { table = r; taken = true } ≡ cbControlled r f
-      unfolding cbControlled
-      no-control h = sym (cond-no _ _ not-select ∙ cond-no _ _ (answered by-number h))
+  pub rules-permit : (rate : ℕ) {r : Checked} → rule ≡ Rate rate → r ≡ next rate → r ≡ permitted m next check
+  rules-permit rate q h = h ∙ ap (permitted m next) (sym q ∙ e)
 
-  -- one that the checking does not reach, and one that it reaches
-  module _ (reached : Bool) where
-    pub control-not-reached : reached ≡ false → record { table = r; taken = true } ≡ cbControlledIf reached r f
-    control-not-reached e = sym (cond-no _ _ e)
+-- a frame counted and checked
+pub counted-checked :
+    (checks : Monitor → Checked) {counted before : Monitor} {c : Checked} → counted ≡ before → c ≡ checks counted → c ≡ checks before
+counted-checked checks x y = y ∙ ap checks x
 
-    pub control-reached : {c : Reserved} → reached ≡ true → c ≡ cbControlled r f → c ≡ cbControlledIf reached r f
-    control-reached e k = k ∙ sym (cond-yes _ _ e)
+-- ---- SV
 
-module _ (m : Iec61850Monitor) (f : MmsFrame) where
-  abbrev selected : Reserved
-  selected = reserved (m .«cb_reservations») (domainName f) (f .«control_block_is_goose») (f .«client_id»)
+none-match : (p : List ℕ) (address : ℕ) (svid : List ℕ) → getD p 192 0 ≡ 0 → svPublisher p address svid ≡ NotRegistered
+unfolding svPublisher lastBelow
+none-match p address svid e = rw e
 
-  abbrev freed : CbReservations
-  freed = released (m .«cb_reservations») (domainName f) (f .«control_block_is_goose») (f .«client_id»)
+module _ (m : Monitor) (address : ℕ) (svid : List ℕ) where
+  -- without publishers there is no rate
+  pub no-publishers : {count : ℕ} → count ≡ getD (m .«sv_publishers») 192 0 → count ≡ 0 → Rate 0 ≡ svRule m address svid
+  unfolding svRule
+  no-publishers e h =
+      sym
+      (ap (svMatched (strictMode m) (m .«sv_publishers»)) (none-match (m .«sv_publishers») address svid (answered e h))
+      ∙ cond-no _ _ (ap (λ (c : ℕ). strictMode m && ltb 0 c) (answered e h) ∙ and-false (strictMode m)))
 
-  -- where nothing is reserved, nothing is found
-  control-found : mmsReserved m (cbControlled (m .«cb_reservations») f) ≡ mmsControl m f
-  unfolding cbControlled mmsControl
-  control-found = go (eqb (serviceNumber (f .«service_type»)) 11) (eqb (serviceNumber (f .«service_type»)) 12 || eqb (serviceNumber (f .«service_type»)) 10)
-    where
-      go :
-          (selects releases : Bool)
-          → mmsReserved m (cond selects selected (cond releases (record { table = freed; taken = true }) (record { table = m .«cb_reservations»; taken = true })))
-          ≡ cond selects (mmsReserved m selected) (cond releases (ended (withReservations m freed) []) (ended m []))
-      go true releases = refl
-      go false true = refl
-      go false false = refl
+  -- by how the svID and the address match
+  pub rule-matched :
+      {match : PublisherMatch} (way : PublisherMatch) → match ≡ svPublisher (m .«sv_publishers») address svid → match ≡ way
+      → svMatched (strictMode m) (m .«sv_publishers») way ≡ svRule m address svid
+  unfolding svRule
+  rule-matched way e h = ap (svMatched (strictMode m) (m .«sv_publishers»)) (sym h ∙ e)
 
-module _ (m : Iec61850Monitor) (f : MmsFrame) where
-  -- the bucket by the rate that the rules give, and the control action if it is reached
-  abbrev bucketFor : ℕ → RateChecked
-  bucketFor rate = rateCheckedIf (m .«rate_buckets») (f .«invoke_id») rate (f .«timestamp_us»)
+  pub not-registered :
+      {match : PublisherMatch} {count : ℕ} {strict : Bool} → match ≡ svPublisher (m .«sv_publishers») address svid → match ≡ NotRegistered
+      → count ≡ getD (m .«sv_publishers») 192 0 → ¬ (count ≡ 0) → strict ≡ strictMode m
+      → cond strict (Refused Medium PolicyViolation) (Rate 0) ≡ svRule m address svid
+  not-registered e h c d s =
+      ap (λ (b : Bool). cond b (Refused Medium PolicyViolation) (Rate 0))
+      (s ∙ sym (ap (λ (b : Bool). strictMode m && b) (answered (ap (ltb 0) c) (nonzero _ d)) ∙ and-true (strictMode m)))
+      ∙ rule-matched NotRegistered e h
 
-  abbrev controlAt : Bool → Reserved
-  controlAt reached = cbControlledIf reached (m .«cb_reservations») f
-
-  -- what the checks leave
-  abbrev mmsLeft : RateChecked → Reserved → Iec61850Monitor
-  mmsLeft bucket control = withReservations (withRates m (bucket .table)) (control .table)
-
-  -- and with what they find
-  abbrev mmsFound : RuleCheck → RateChecked → Reserved → Checked
-  mmsFound rule bucket control = ended (mmsLeft bucket control) (mmsFindings rule (bucket .allowed) ++ fullFindings (control .taken))
-
-  -- an empty bucket ends the checking, else the control action follows
-  after-bucket :
-      (rate : ℕ) (table : RateBuckets) (allowed : Bool)
-      → mmsFound (Rate rate) (record { table = table; allowed = allowed }) (controlAt (not (not allowed)))
-      ≡ mmsRated m f (record { table = table; allowed = allowed })
-  after-bucket rate table true = control-found (withRates m table) f
-  after-bucket rate table false = refl
-
-  -- a rate of 0 is no limit
-  rate-limited : (rate : ℕ) → mmsRated m f (bucketFor rate) ≡ mmsRate m f rate
-  unfolding mmsRate
-  rate-limited rate = go (ltb 0 rate) (rateChecked (m .«rate_buckets») (f .«invoke_id») rate (f .«timestamp_us»))
-    where
-      go :
-          (b : Bool) (c : RateChecked)
-          → mmsRated m f (cond b c (record { table = m .«rate_buckets»; allowed = true })) ≡ cond b (mmsRated m f c) (mmsControl m f)
-      go true c = refl
-      go false c = refl
-
-  -- a refusal by the rules ends the checking too
-  after-mms-rules :
-      (rule : RuleCheck)
-      → mmsFound rule (bucketFor (rateGiven rule)) (controlAt (permits rule && not (not (bucketFor (rateGiven rule) .allowed))))
-      ≡ permitted m (mmsRate m f) rule
-  after-mms-rules (Refused severity code) = refl
-  after-mms-rules (Rate rate) = after-bucket rate (bucketFor rate .table) (bucketFor rate .allowed) ∙ rate-limited rate
-
-  -- the checks one after the other, as the code makes them: each answer from those before it
-  pub mms-checked :
-      {write : Bool} {rule : RuleCheck} {rate : ℕ} {passed reached : Bool} {bucket : RateChecked} {control : Reserved}
-      (first second : CheckAlert)
-      → write ≡ isWrite (f .«service_type»)
-      → rule ≡ mmsMask (m .settings) (m .rules .mms) (f .«raw_service_type») write
-      → rate ≡ rateGiven rule
-      → bucket ≡ bucketFor rate
-      → passed ≡ permits rule
-      → reached ≡ (passed && not (not (bucket .allowed)))
-      → control ≡ controlAt reached
-      → findingsOf first ≡ mmsFindings rule (bucket .allowed)
-      → findingsOf second ≡ fullFindings (control .taken)
-      → ended (mmsLeft bucket control) (alertsOf (record { first = first; second = second; third = Nothing })) ≡ mmsChecks m f
-  unfolding mmsChecks
-  mms-checked {rule = rule} {bucket = bucket} {control = control} first second w r g b p q k x y =
-      (λ i. ended (mmsLeft bucket control) (x i ++ (append-nil (findingsOf second) ∙ y) i))
-      ∙ ap (mmsFound rule bucket) (k ∙ ap controlAt (q ∙ ap (λ (z : Bool). z && not (not (bucket .allowed))) p))
-      ∙ ap (λ (c : RateChecked). mmsFound rule c (controlAt (permits rule && not (not (c .allowed))))) (b ∙ ap bucketFor g)
-      ∙ after-mms-rules rule
-      ∙ ap (permitted m (mmsRate m f)) (r ∙ ap (mmsMask (m .settings) (m .rules .mms) (f .«raw_service_type»)) w)
-
--- ---- GOOSE and SV: the clock of an address, if the checking reaches it
-
-abbrev clockAt : Iec61850Monitor → ℕ × ℕ → Bool → ℕ → TimeChecked
-clockAt m pair reached address = timeCheckedIf reached (m .«time_trackers») (m .settings .«time_max_forward_jump_s») address pair
-
--- ---- GOOSE: test flag and publishers, the reservation, then clock, retransmission and stream
-
--- a test frame while blocked, and what the publishers say of any other
-module _ (blockedTest : Bool) (count : ℕ) (place : Found) where
-  pub test-refused : blockedTest ≡ true → Refused Medium PolicyViolation ≡ gooseRuleCheck blockedTest count place
-  unfolding gooseRuleCheck
-  test-refused b = sym (cond-yes _ _ b)
-
-  module _ {found : Found} {missing : Bool} (b : blockedTest ≡ false) (e : found ≡ place) (u : missing ≡ (ltb 0 count && not (isFound found))) where
-    publisher-asked : {x : Bool} → missing ≡ x → (ltb 0 count && not (isFound place)) ≡ x
-    publisher-asked h = answered (u ∙ ap (λ (p : Found). ltb 0 count && not (isFound p)) e) h
-
-    pub unlisted-refused : missing ≡ true → Refused High PolicyViolation ≡ gooseRuleCheck blockedTest count place
-    unfolding gooseRuleCheck
-    unlisted-refused h = sym (cond-no _ _ b ∙ cond-yes _ _ (publisher-asked h))
-
-    pub listed-permitted : missing ≡ false → Rate 0 ≡ gooseRuleCheck blockedTest count place
-    unfolding gooseRuleCheck
-    listed-permitted h = sym (cond-no _ _ b ∙ cond-no _ _ (publisher-asked h))
-
-module _ (m : Iec61850Monitor) (f : GooseFrame) where
-  abbrev gooseSource : ℕ
-  gooseSource = addressOf (f .«src_mac»)
-
-  -- what test flag and publishers say of the frame
-  abbrev gooseRuled : RuleCheck
-  gooseRuled = gooseRuleCheck (blocked (m .settings) f) (m .rules .goose .count) (goosePublisher (m .rules .goose) gooseSource (controlBlock f))
-
-  -- so says the search by the padded name and its length
-  goose-ruled :
-      {n address : ℕ} {kept : List ℕ} {rule : RuleCheck}
-      → kept ≡ padded (controlBlock f) (length (controlBlock f)) → n ≡ length (controlBlock f) → address ≡ gooseSource
-      → rule
-      ≡ gooseRuleCheck (blocked (m .settings) f) (m .rules .goose .count)
-      (firstFitting (m .rules .goose .«src_mac») (m .rules .goose .«go_cb_ref» .octets) (m .rules .goose .«go_cb_ref» .lens) (m .rules .goose .count) address kept n)
-      → rule ≡ gooseRuled
-  unfolding goosePublisher
-  goose-ruled k l a r =
-      let p = m .rules .goose in
-      r
-      ∙ (λ i. gooseRuleCheck (blocked (m .settings) f) (p .count)
-      (firstFitting (p .«src_mac») (p .«go_cb_ref» .octets) (p .«go_cb_ref» .lens) (p .count) (a i) (k i) (l i)))
-
-  -- the chain of the definition, by what they say
-  goose-permitted : permitted m (λ rate. gooseReservation m f) gooseRuled ≡ gooseTest m f
-  unfolding gooseTest gooseAllowed gooseRuleCheck
-  goose-permitted = go (blocked (m .settings) f) (ltb 0 (m .rules .goose .count) && not (isFound (goosePublisher (m .rules .goose) gooseSource (controlBlock f))))
-    where
-      go :
-          (b missing : Bool)
-          → permitted m (λ rate. gooseReservation m f) (cond b (Refused Medium PolicyViolation) (cond missing (Refused High PolicyViolation) (Rate 0)))
-          ≡ cond b (ended m (refusal Medium PolicyViolation ∷ [])) (cond missing (ended m (refusal High PolicyViolation ∷ [])) (gooseReservation m f))
-      go true missing = refl
-      go false true = refl
-      go false false = refl
-
-  -- the further checks of the frame, each if it is reached
-  abbrev controlBlockAt : Bool → ℕ → CbChecked
-  controlBlockAt permitted address = cbCheckedIf permitted (m .«cb_reservations») (controlBlock f) true address
-
-  abbrev retxAt : Bool → GooseSeqTable → ℕ → ℕ → Bool
-  retxAt reached t address hash = retxCheckedIf reached (m .settings .«retx_enforce») (m .settings .«retx_schedule») t (address, hash) (gooseTimed f)
-
-  abbrev streamAt : Bool → ℕ → ℕ → GooseChecked
-  streamAt reached address hash = gooseCheckedIf reached (m .«goose_seq») (address, hash) (gooseTimed f)
-
-  -- what the checks leave
-  abbrev gooseLeft : CbChecked → TimeChecked → GooseChecked → Iec61850Monitor
-  gooseLeft used clock stream = withGooseStreams (withClocks (withReservations m (used .table)) (clock .table)) (stream .table)
-
-  -- and with what they find
-  abbrev gooseFound : RuleCheck → CbChecked → TimeChecked → Bool → GooseChecked → Checked
-  gooseFound rule used clock outside stream =
-      ended (gooseLeft used clock stream) (firstFindings rule (used .hijack) (clock .alert) ++ streamFindings (stream .replay) outside)
-
-  -- the same from whether the checking reaches them
-  abbrev gooseFoundIf : RuleCheck → CbChecked → Bool → Checked
-  gooseFoundIf rule used reached =
-      gooseFound rule used (clockAt m (goosePair f) reached gooseSource) (retxAt reached (m .«goose_seq») gooseSource (fnv1a (controlBlock f)))
-      (streamAt reached gooseSource (fnv1a (controlBlock f)))
-
-  -- a hijack ends the checking, else the frame is checked on
-  after-control-block :
-      (rate : ℕ) (table : CbReservations) (hijack : Bool)
-      → gooseFoundIf (Rate rate) (record { table = table; hijack = hijack }) (not hijack) ≡ gooseBound m f (record { table = table; hijack = hijack })
-  unfolding gooseTimeField retxCheckedIf
-  after-control-block rate table true = refl
-  after-control-block rate table false = refl
-
-  -- a refusal by the rules ends it too
-  after-goose-rules :
-      (rule : RuleCheck)
-      → gooseFoundIf rule (controlBlockAt (permits rule) gooseSource) (permits rule && not (controlBlockAt (permits rule) gooseSource .hijack))
-      ≡ permitted m (λ rate. gooseReservation m f) rule
-  unfolding gooseReservation retxCheckedIf
-  after-goose-rules (Refused severity code) = refl
-  after-goose-rules (Rate rate) = after-control-block rate (controlBlockAt true gooseSource .table) (controlBlockAt true gooseSource .hijack)
-
-  -- the checks one after the other, as the code makes them: each answer from those before it
-  pub goose-checked :
-      {n address hash : ℕ} {kept : List ℕ} {rule : RuleCheck} {passed reached outside : Bool} {used : CbChecked} {clock : TimeChecked} {stream : GooseChecked}
-      (first second : CheckAlert)
-      → kept ≡ padded (controlBlock f) (length (controlBlock f)) → n ≡ length (controlBlock f) → address ≡ gooseSource
-      → rule
-      ≡ gooseRuleCheck (blocked (m .settings) f) (m .rules .goose .count)
-      (firstFitting (m .rules .goose .«src_mac») (m .rules .goose .«go_cb_ref» .octets) (m .rules .goose .«go_cb_ref» .lens) (m .rules .goose .count) address kept n)
-      → passed ≡ permits rule
-      → used ≡ controlBlockAt passed address
-      → reached ≡ (passed && not (used .hijack))
-      → clock ≡ clockAt m (goosePair f) reached address
-      → hash ≡ fnv1a (controlBlock f)
-      → outside ≡ retxAt reached (withoutAges (m .«goose_seq»)) address hash
-      → stream ≡ streamAt reached address hash
-      → findingsOf first ≡ firstFindings rule (used .hijack) (clock .alert)
-      → findingsOf second ≡ streamFindings (stream .replay) outside
-      → ended (gooseLeft used clock stream) (alertsOf (record { first = first; second = second; third = Nothing })) ≡ gooseTest m f
-  unfolding retxCheckedIf
-  goose-checked {rule = rule} {passed = passed} {reached = reached} {used = used} {clock = clock} {stream = stream} first second k l a r p u g t h o s x y =
-      let scheduled = o ∙ ap (λ (b : Bool). reached && b) (retx-columns _ _ (m .«goose_seq») _ _) in
-      (λ i. ended (gooseLeft used clock stream) (x i ++ (append-nil (findingsOf second) ∙ y) i))
-      ∙ (λ i. gooseFound rule used (t i) (scheduled i) (s i))
-      ∙ (λ i. gooseFound rule used (clockAt m (goosePair f) reached (a i)) (retxAt reached (m .«goose_seq») (a i) (h i)) (streamAt reached (a i) (h i)))
-      ∙ ap (gooseFoundIf rule used) (g ∙ ap (λ (b : Bool). b && not (used .hijack)) p)
-      ∙ ap (λ (c : CbChecked). gooseFoundIf rule c (permits rule && not (c .hijack))) (u ∙ (λ i. controlBlockAt (p i) (a i)))
-      ∙ after-goose-rules rule
-      ∙ ap (permitted m (λ rate. gooseReservation m f)) (goose-ruled k l a r)
-      ∙ goose-permitted
-
--- ---- SV: the publishers, the reservation, then clock, count and rate
-
--- a place past the rates has none
-pub rate-past : (rates : List ℕ) (strict : Bool) (count i : ℕ) → length rates ≡ 16 → 16 ≤ i → Rate 0 ≡ svRuleCheck strict count rates (Fits i)
-rate-past rates strict count i l h = rw (List·getD-eq-default rates 0 {n = i} (omega arith))
-
--- the rate is compared behind the count, but not after a replay
-count-then-rate :
-    (limit : ℕ) (rates : List Finding) (o : SvSeqOutcome)
-    → countFindings limit [] o ++ cond (isReplay o) [] rates ≡ countFindings limit rates o
+-- the rate's alert follows the count's unless that is a replay
+pub count-then-rate :
+    (limit : ℕ) (rates : List Finding) (o : SvSeqOutcome) → countFindings limit [] o ++ cond (isReplay o) [] rates ≡ countFindings limit rates o
 unfolding countFindings isReplay
 count-then-rate limit rates FirstSeen = refl
 count-then-rate limit rates Replay = refl
@@ -595,192 +132,141 @@ count-then-rate limit rates (ForwardGap gap) = go (ltb 0 limit && ltb limit gap)
 count-then-rate limit rates CycleWrap = refl
 count-then-rate limit rates (SuspiciousSmpGap gap) = refl
 
-module _ (m : Iec61850Monitor) (f : SvFrame) where
-  -- what the publishers say of the frame
-  abbrev pub svRuled : RuleCheck
-  svRuled =
-      svRuleCheck (m .settings .«strict_mode») (m .rules .sv .count) (m .rules .sv .«expected_smp_rate»)
-      (svPublisher (m .rules .sv) (addressOf (f .«src_mac»)) (svKey f))
+pub clock-and-count :
+    (svid : List ℕ) (n : SvNumbers) (rate : ℕ) (m : Monitor) {limit gap : ℕ} {timed counted : Monitor} {alert : Bool} {outcome : SvSeqOutcome}
+    {a : List Finding}
+    → limit ≡ timeMaxForwardJump m
+    → record { monitor = timed; answer = alert } ≡ timeFieldOn m limit (n .address) (n .seconds, n .fraction)
+    → record { monitor = counted; answer = outcome } ≡ svSeqOn timed svid (n .«smp_cnt»)
+    → gap ≡ svMaxSmpCntGap counted
+    → a ≡ clockFindings alert ++ countFindings gap (rateFindings (n .«smp_rate») rate) outcome
+    → record { monitor = counted; answer = a } ≡ svTimeField svid n rate m
+unfolding svTimeField
+clock-and-count svid n rate m {alert = alert} {outcome = outcome} l t s g h =
+    ends _ (h ∙ ap (λ (gap : ℕ). clockFindings alert ++ countFindings gap (rateFindings (n .«smp_rate») rate) outcome) g)
+    ∙ ap (svCount svid n rate (clockFindings alert)) s
+    ∙ ap (svClock svid n rate) (t ∙ ap (λ (limit : ℕ). timeFieldOn m limit (n .address) (n .seconds, n .fraction)) l)
 
-  -- so says the search by the padded svID and its length
-  sv-ruled :
-      {n address : ℕ} {kept : List ℕ} {rule : RuleCheck}
-      → kept ≡ padded (svKey f) (length (svKey f)) → n ≡ length (svKey f) → address ≡ addressOf (f .«src_mac»)
-      → rule
-      ≡ svRuleCheck (m .settings .«strict_mode») (m .rules .sv .count) (m .rules .sv .«expected_smp_rate»)
-      (lastFitting (m .rules .sv .«src_mac») (m .rules .sv .svid .octets) (m .rules .sv .svid .lens) (m .rules .sv .count) address kept n)
-      → rule ≡ svRuled
-  unfolding svPublisher
-  sv-ruled k l a r =
-      let p = m .rules .sv in
-      r
-      ∙ (λ i. svRuleCheck (m .settings .«strict_mode») (p .count) (p .«expected_smp_rate»)
-      (lastFitting (p .«src_mac») (p .svid .octets) (p .svid .lens) (p .count) (a i) (k i) (l i)))
+-- a frame by the keys and the address that the code makes of it
+pub sv-checked :
+    (m : Monitor) (f : SvFrame) {svid dataset : List ℕ} {address : ℕ} {counted : Monitor} {c : Checked}
+    → svid ≡ plainKey (svidOf f) → dataset ≡ reservationKey false (datasetOf f) → address ≡ addressOf (f .«src_mac») → counted ≡ countedSv m
+    → c ≡ svBinding counted (svReadWith svid dataset address f) → c ≡ checkedSv m f
+sv-checked m f {counted = counted} k d s n e =
+    counted-checked (λ x. svBinding x (svRead f)) n (e ∙ λ i. svBinding counted (svReadWith (k i) (d i) (s i) f))
 
-  -- the further checks of the frame, each if it is reached
-  abbrev dataSetAt : Bool → ℕ → CbChecked
-  dataSetAt permitted address = cbCheckedIf permitted (m .«cb_reservations») (nameOf (f .«dataset_ref») (f .«dataset_ref_len»)) false address
-
-  abbrev countAt : Bool → SvChecked
-  countAt reached = cond reached (svChecked (m .«sv_seq») (svKey f) (f .«smp_cnt»)) (record { table = m .«sv_seq»; outcome = FirstSeen })
-
-  -- what the checks leave
-  abbrev pub svLeft : CbChecked → TimeChecked → SvChecked → Iec61850Monitor
-  svLeft used clock count = withSvStreams (withClocks (withReservations m (used .table)) (clock .table)) (count .table)
-
-  -- and with what they find
-  abbrev svFound : RuleCheck → CbChecked → TimeChecked → SvChecked → Checked
-  svFound rule used clock count =
-      ended (svLeft used clock count)
-      (firstFindings rule (used .hijack) (clock .alert)
-      ++ (countFindings (m .settings .«sv_max_smp_cnt_gap») [] (count .outcome)
-      ++ cond (isReplay (count .outcome)) [] (rateFindings (f .«smp_rate») (rateReached rule (used .hijack)))))
-
-  -- where the checking ended before, count and rate find nothing
-  nothing-further :
-      countFindings (m .settings .«sv_max_smp_cnt_gap») [] FirstSeen ++ cond (isReplay FirstSeen) [] (rateFindings (f .«smp_rate») 0) ≡ []
-  unfolding countFindings isReplay rateFindings
-  nothing-further = rw (and-false (ltb 0 (f .«smp_rate»)))
-
-  abbrev svSource : ℕ
-  svSource = addressOf (f .«src_mac»)
-
-  -- a hijack ends the checking, else the frame is checked on
-  after-data-set :
-      (rate : ℕ) (table : CbReservations) (hijack : Bool)
-      → svFound (Rate rate) (record { table = table; hijack = hijack }) (clockAt m (svPair f) (not hijack) svSource) (countAt (not hijack))
-      ≡ svBound m f rate (record { table = table; hijack = hijack })
-  unfolding svTimeField
-  after-data-set rate table true = ap (λ (l : List Finding). ended (withReservations m table) (refusal High CbHijack ∷ l)) nothing-further
-  after-data-set rate table false =
-      ap (λ (l : List Finding). ended (svLeft (record { table = table; hijack = false }) (clockAt m (svPair f) true svSource) (countAt true)) (clockFindings (clockAt m (svPair f) true svSource .alert) ++ l))
-      (count-then-rate (m .settings .«sv_max_smp_cnt_gap») (rateFindings (f .«smp_rate») rate) (countAt true .outcome))
-
-  -- a refusal by the rules ends it too
-  after-sv-rules :
-      (rule : RuleCheck)
-      → svFound rule (dataSetAt (permits rule) svSource) (clockAt m (svPair f) (permits rule && not (dataSetAt (permits rule) svSource .hijack)) svSource)
-      (countAt (permits rule && not (dataSetAt (permits rule) svSource .hijack)))
-      ≡ permitted m (svReservation m f) rule
-  unfolding svReservation
-  after-sv-rules (Refused severity code) = ap (λ (l : List Finding). ended m (refusal severity code ∷ l)) nothing-further
-  after-sv-rules (Rate rate) = after-data-set rate (dataSetAt true svSource .table) (dataSetAt true svSource .hijack)
-
-  -- the checks one after the other, as the code makes them: each answer from those before it
-  pub sv-checked :
-      {n address rate : ℕ} {kept : List ℕ} {rule : RuleCheck} {passed reached replay : Bool} {used : CbChecked} {clock : TimeChecked} {count : SvChecked}
-      (first second third : CheckAlert)
-      → kept ≡ padded (svKey f) (length (svKey f)) → n ≡ length (svKey f) → address ≡ addressOf (f .«src_mac»)
-      → rule
-      ≡ svRuleCheck (m .settings .«strict_mode») (m .rules .sv .count) (m .rules .sv .«expected_smp_rate»)
-      (lastFitting (m .rules .sv .«src_mac») (m .rules .sv .svid .octets) (m .rules .sv .svid .lens) (m .rules .sv .count) address kept n)
-      → passed ≡ permits rule
-      → used ≡ dataSetAt passed address
-      → reached ≡ (passed && not (used .hijack))
-      → clock ≡ clockAt m (svPair f) reached address
-      → count ≡ svKeptCheckedIf reached (m .«sv_seq») kept n (f .«smp_cnt»)
-      → findingsOf first ≡ firstFindings rule (used .hijack) (clock .alert)
-      → findingsOf second ≡ countFindings (m .settings .«sv_max_smp_cnt_gap») [] (count .outcome)
-      → replay ≡ isReplay (count .outcome)
-      → rate ≡ rateReached rule (used .hijack)
-      → findingsOf third ≡ cond replay [] (rateFindings (f .«smp_rate») rate)
-      → ended (svLeft used clock count) (alertsOf (record { first = first; second = second; third = third })) ≡ svBinding m f
-  unfolding svBinding
-  sv-checked {rule = rule} {passed = passed} {reached = reached} {used = used} {clock = clock} {count = count} first second third k l a r p u g t s x y w v z =
-      let third-found = z ∙ (λ i. cond (w i) [] (rateFindings (f .«smp_rate») (v i))) in
-      let counted = s ∙ ap (λ (c : SvChecked). cond reached c (record { table = m .«sv_seq»; outcome = FirstSeen })) (kept-checked (m .«sv_seq») (svKey f) (f .«smp_cnt») k l) in
-      (λ i. ended (svLeft used clock count) (x i ++ (y i ++ third-found i)))
-      ∙ (λ i. svFound rule used ((t ∙ ap (clockAt m (svPair f) reached) a) i) (counted i))
-      ∙ ap (λ (b : Bool). svFound rule used (clockAt m (svPair f) b svSource) (countAt b)) g
-      ∙ (λ i. svFound rule used (clockAt m (svPair f) (p i && not (used .hijack)) svSource) (countAt (p i && not (used .hijack))))
-      ∙ ap (λ (c : CbChecked). svFound rule c (clockAt m (svPair f) (permits rule && not (c .hijack)) svSource) (countAt (permits rule && not (c .hijack)))) (u ∙ (λ i. dataSetAt (p i) (a i)))
-      ∙ after-sv-rules rule
-      ∙ ap (permitted m (svReservation m f)) (sv-ruled k l a r)
-
--- ---- a frame counted, checked and reported: `after` is the monitor that the checks leave
-
-pub mms-inspected :
-    (m : Iec61850Monitor) (f : MmsFrame) (after : Iec61850Monitor) (findings : List Finding) {total : ℕ} {p : Pushed}
-    → total ≡ saturated (m .totals .«mms_total_inspected»)
-    → ended after findings ≡ mmsChecks (withTotals m total (gooseTotalInspected m) (svTotalInspected m) (m .totals .alerts)) f
-    → p ≡ foldl (reportedNext sourceMms (f .«invoke_id») (f .«timestamp_us»)) (record { result = cleanResult sourceMms; counters = after .totals .alerts }) findings
-    → record { monitor = withAlerts after (p .counters); result = p .result } ≡ inspectMms m f
-unfolding inspectMms countedMms
-mms-inspected m f after findings t e r =
-    pushed-reported sourceMms (f .«invoke_id») (f .«timestamp_us») after findings r
-    ∙ ap (reported sourceMms (f .«invoke_id») (f .«timestamp_us»)) (e ∙ ap (λ (n : ℕ). mmsChecks (withTotals m n (gooseTotalInspected m) (svTotalInspected m) (m .totals .alerts)) f) t)
-
-pub goose-inspected :
-    (m : Iec61850Monitor) (f : GooseFrame) (after : Iec61850Monitor) (findings : List Finding) {total : ℕ} {p : Pushed}
-    → total ≡ saturated (m .totals .«goose_total_inspected»)
-    → ended after findings ≡ gooseTest (withTotals m (mmsTotalInspected m) total (svTotalInspected m) (m .totals .alerts)) f
-    → p ≡ foldl (reportedNext sourceGoose (f .«st_num») (f .«timestamp_us»)) (record { result = cleanResult sourceGoose; counters = after .totals .alerts }) findings
-    → record { monitor = withAlerts after (p .counters); result = p .result } ≡ inspectGoose m f
-unfolding inspectGoose countedGoose
-goose-inspected m f after findings t e r =
-    pushed-reported sourceGoose (f .«st_num») (f .«timestamp_us») after findings r
-    ∙ ap (reported sourceGoose (f .«st_num») (f .«timestamp_us»)) (e ∙ ap (λ (n : ℕ). gooseTest (withTotals m (mmsTotalInspected m) n (svTotalInspected m) (m .totals .alerts)) f) t)
-
-pub sv-inspected :
-    (m : Iec61850Monitor) (f : SvFrame) (after : Iec61850Monitor) (findings : List Finding) {total : ℕ} {p : Pushed}
-    → total ≡ saturated (m .totals .«sv_total_inspected»)
-    → ended after findings ≡ svBinding (withTotals m (mmsTotalInspected m) (gooseTotalInspected m) total (m .totals .alerts)) f
-    → p ≡ foldl (reportedNext sourceSv (f .«smp_cnt») (f .«timestamp_us»)) (record { result = cleanResult sourceSv; counters = after .totals .alerts }) findings
-    → record { monitor = withAlerts after (p .counters); result = p .result } ≡ inspectSv m f
-unfolding inspectSv countedSv
-sv-inspected m f after findings t e r =
-    pushed-reported sourceSv (f .«smp_cnt») (f .«timestamp_us») after findings r
-    ∙ ap (reported sourceSv (f .«smp_cnt») (f .«timestamp_us»)) (e ∙ ap (λ (n : ℕ). svBinding (withTotals m (mmsTotalInspected m) (gooseTotalInspected m) n (m .totals .alerts)) f) t)
-
--- ---- the same with the verdict in place of the result
-
-pub mms-noted :
-    (m : Iec61850Monitor) (f : MmsFrame) (after : Iec61850Monitor) (findings : List Finding) {total : ℕ} {q : Noted}
-    → total ≡ saturated (m .totals .«mms_total_inspected»)
-    → ended after findings ≡ mmsChecks (withTotals m total (gooseTotalInspected m) (svTotalInspected m) (m .totals .alerts)) f
-    → q
-    ≡ notedOf (foldl (reportedNext sourceMms (f .«invoke_id») (f .«timestamp_us»)) (record { result = cleanResult sourceMms; counters = after .totals .alerts }) findings)
-    → (withAlerts after (q .counters) ≡ inspectMms m f .monitor) × (q .verdict ≡ verdictOf (inspectMms m f .result))
-mms-noted m f after findings t e r =
-    let i = mms-inspected m f after findings t e refl in
-    (noted-after after r i, noted-verdict after r i)
-
-pub goose-noted :
-    (m : Iec61850Monitor) (f : GooseFrame) (after : Iec61850Monitor) (findings : List Finding) {total : ℕ} {q : Noted}
-    → total ≡ saturated (m .totals .«goose_total_inspected»)
-    → ended after findings ≡ gooseTest (withTotals m (mmsTotalInspected m) total (svTotalInspected m) (m .totals .alerts)) f
-    → q
-    ≡ notedOf (foldl (reportedNext sourceGoose (f .«st_num») (f .«timestamp_us»)) (record { result = cleanResult sourceGoose; counters = after .totals .alerts }) findings)
-    → (withAlerts after (q .counters) ≡ inspectGoose m f .monitor) × (q .verdict ≡ verdictOf (inspectGoose m f .result))
-goose-noted m f after findings t e r =
-    let i = goose-inspected m f after findings t e refl in
-    (noted-after after r i, noted-verdict after r i)
-
-pub sv-noted :
-    (m : Iec61850Monitor) (f : SvFrame) (after : Iec61850Monitor) (findings : List Finding) {total : ℕ} {q : Noted}
-    → total ≡ saturated (m .totals .«sv_total_inspected»)
-    → ended after findings ≡ svBinding (withTotals m (mmsTotalInspected m) (gooseTotalInspected m) total (m .totals .alerts)) f
-    → q
-    ≡ notedOf (foldl (reportedNext sourceSv (f .«smp_cnt») (f .«timestamp_us»)) (record { result = cleanResult sourceSv; counters = after .totals .alerts }) findings)
-    → (withAlerts after (q .counters) ≡ inspectSv m f .monitor) × (q .verdict ≡ verdictOf (inspectSv m f .result))
-sv-noted m f after findings t e r =
-    let i = sv-inspected m f after findings t e refl in
-    (noted-after after r i, noted-verdict after r i)
-
--- ---- a raw SV frame, unreadable or read
-
-module _ (m : Iec61850Monitor) (octets : List ℕ) (time : ℕ) {p : ParsedSv} (e : p ≡ svFrame octets time) where
+-- a raw frame, unreadable or read
+module _ (m : Monitor) (octets : List ℕ) (time : ℕ) {p : ParsedSv} (e : p ≡ svFrame octets time) where
   raw-answered : {answer : Parsed} → p .answer ≡ answer → rawInspected m answer (p .frame) ≡ inspectRawSv m octets time
   unfolding inspectRawSv
   raw-answered a = ap (λ (x : Parsed). rawInspected m x (p .frame)) (sym a) ∙ ap (λ (q : ParsedSv). rawInspected m (q .answer) (q .frame)) e
 
   pub raw-unreadable :
-      {error : VsError} {clean : InspectResult}
-      → p .answer ≡ Error error → clean ≡ cleanResult sourceSv → record { answer = p .answer; monitor = m; result = clean } ≡ inspectRawSv m octets time
-  raw-unreadable a r = (λ i. record { answer = a i; monitor = m; result = r i }) ∙ raw-answered a
+      {error : VsError} {clean : InspectResult} → p .answer ≡ Error error → clean ≡ cleanResult sourceSv
+      → record { monitor = m; answer = record { answer = p .answer; result = withAllowed clean false } } ≡ inspectRawSv m octets time
+  raw-unreadable a r = (λ i. record { monitor = m; answer = record { answer = a i; result = withAllowed (r i) false } }) ∙ raw-answered a
 
   pub raw-read :
-      {x : Inspected}
-      → p .answer ≡ Frame → x ≡ inspectSv m (p .frame)
-      → record { answer = p .answer; monitor = x .monitor; result = x .result } ≡ inspectRawSv m octets time
-  raw-read a r = (λ i. record { answer = a i; monitor = r i .monitor; result = r i .result }) ∙ raw-answered a
+      {after : Monitor} {r : InspectResult} → p .answer ≡ Frame → record { monitor = after; answer = r } ≡ inspectSv m (p .frame)
+      → record { monitor = after; answer = record { answer = p .answer; result = r } } ≡ inspectRawSv m octets time
+  raw-read a r = (λ i. record { monitor = r i .monitor; answer = record { answer = a i; result = r i .answer } }) ∙ raw-answered a
+
+-- ---- GOOSE
+
+module _ (m : Monitor) (n : GooseNumbers) {enforced : Bool} (e : enforced ≡ retxEnforce m) where
+  pub retx-not-asked : enforced ≡ false → false ≡ retransmitted m n
+  unfolding retransmitted
+  retx-not-asked h = sym (and-no _ (answered e h))
+
+  pub retx-asked :
+      {schedule : RetxSchedule} {key : List ℕ} {r : Bool} → enforced ≡ true → schedule ≡ retxSchedule m → key ≡ streamKey n
+      → r ≡ retxChecked schedule (m .«goose_seq») key (timedNumbers n) → r ≡ retransmitted m n
+  unfolding retransmitted
+  retx-asked h s k q =
+      q ∙ (λ i. retxChecked (s i) (m .«goose_seq») (k i) (timedNumbers n)) ∙ sym (and-yes (answered e h) refl)
+
+-- publishers exist, and whether one fits
+module _ (m : Monitor) (address : ℕ) (name : List ℕ) {count : ℕ} (e : count ≡ getD (m .«goose_publishers») 176 0) where
+  pub unknown-to-none : count ≡ 0 → false ≡ gooseUnknown m address name
+  unfolding gooseUnknown
+  unknown-to-none h = rw (answered e h)
+
+  pub unknown-unless-found :
+      (way : Found) {x : Found} → ¬ (count ≡ 0) → x ≡ goosePublisher (m .«goose_publishers») address name → x ≡ way
+      → not (isFound way) ≡ gooseUnknown m address name
+  unfolding gooseUnknown
+  unknown-unless-found way d q h =
+      ap (λ (x : Found). not (isFound x)) (sym h ∙ q) ∙ sym (and-yes (answered (ap (ltb 0) e) (nonzero _ d)) refl)
+
+pub clock-and-stream :
+    (n : GooseNumbers) (m : Monitor) {limit : ℕ} {timed stored : Monitor} {alert outside replay : Bool} {key : List ℕ} {a : List Finding}
+    → limit ≡ timeMaxForwardJump m
+    → record { monitor = timed; answer = alert } ≡ timeFieldOn m limit (n .address) (n .seconds, n .fraction)
+    → outside ≡ retransmitted timed n
+    → key ≡ streamKey n
+    → record { monitor = stored; answer = replay } ≡ gooseSeqOn timed key (timedNumbers n)
+    → a ≡ clockFindings alert ++ streamFindings replay outside
+    → record { monitor = stored; answer = a } ≡ gooseTimeField n m
+unfolding gooseTimeField
+clock-and-stream n m {timed = timed} {alert = alert} {replay = replay} l t o k s h =
+    ends _ (h ∙ ap (λ (b : Bool). clockFindings alert ++ streamFindings replay b) o)
+    ∙ ap (gooseStream (clockFindings alert) (retransmitted timed n)) (s ∙ ap (λ (key : List ℕ). gooseSeqOn timed key (timedNumbers n)) k)
+    ∙ ap (gooseClock n) (t ∙ ap (λ (limit : ℕ). timeFieldOn m limit (n .address) (n .seconds, n .fraction)) l)
+
+pub goose-checked :
+    (m : Monitor) (f : GooseFrame) {publisher reservation : List ℕ} {address hash : ℕ} {counted : Monitor} {c : Checked}
+    → publisher ≡ plainKey (controlBlock f) → reservation ≡ reservationKey true (controlBlock f) → address ≡ addressOf (f .«src_mac»)
+    → hash ≡ fnv1a (controlBlock f) → counted ≡ countedGoose m → c ≡ gooseTest counted (gooseReadWith publisher reservation address hash f)
+    → c ≡ checkedGoose m f
+goose-checked m f {counted = counted} p k s h n e =
+    counted-checked (λ x. gooseTest x (gooseRead f)) n (e ∙ λ i. gooseTest counted (gooseReadWith (p i) (k i) (s i) (h i) f))
+
+-- ---- MMS
+
+module _ (f : MmsRead) (m : Monitor) {key : List ℕ} (k : key ≡ controlKey f) where
+  pub control-selects :
+      {after : Monitor} {taken : Bool} {a : List Finding} → f .numbers .service ≡ 11
+      → record { monitor = after; answer = taken } ≡ reservedOn m key (f .numbers .«client_id») → a ≡ fullFindings taken
+      → record { monitor = after; answer = a } ≡ mmsControl f m
+  unfolding mmsControl
+  control-selects h r q =
+      ends _ q ∙ ap mmsReserved (r ∙ ap (λ (x : List ℕ). reservedOn m x (f .numbers .«client_id»)) k) ∙ sym (cond-yes _ _ (eq-eqb _ _ h))
+
+  pub control-releases :
+      {after : Monitor} {a : List Finding} → ¬ (f .numbers .service ≡ 11) → releases (f .numbers .service) ≡ true
+      → after ≡ releasedOn m key (f .numbers .«client_id») → a ≡ [] → record { monitor = after; answer = a } ≡ mmsControl f m
+  unfolding mmsControl
+  control-releases d h r q =
+      ends _ q ∙ ap (λ (x : Monitor). ended x []) (r ∙ ap (λ (x : List ℕ). releasedOn m x (f .numbers .«client_id»)) k)
+      ∙ sym (cond-no _ _ (ne-eqb _ _ d) ∙ cond-yes _ _ h)
+
+module _ (f : MmsRead) (m : Monitor) where
+  pub no-control :
+      {a : List Finding} → ¬ (f .numbers .service ≡ 11) → releases (f .numbers .service) ≡ false → a ≡ []
+      → record { monitor = m; answer = a } ≡ mmsControl f m
+  unfolding mmsControl
+  no-control d h q = ends _ q ∙ sym (cond-no _ _ (ne-eqb _ _ d) ∙ cond-no _ _ h)
+
+  module _ (rate : ℕ) where
+    pub rate-free : {r : Checked} → rate ≡ 0 → r ≡ mmsControl f m → r ≡ mmsRate f rate m
+    unfolding mmsRate
+    rate-free h q = q ∙ sym (cond-no _ _ (ap (ltb 0) h))
+
+    module _ {after : Monitor} {allowed : Bool} (d : ¬ (rate ≡ 0))
+        (e : record { monitor = after; answer = allowed } ≡ rateOn m (f .numbers .«invoke_id») rate (f .numbers .«timestamp_us»)) where
+      asked : mmsRated f (record { monitor = after; answer = allowed }) ≡ mmsRate f rate m
+      unfolding mmsRate
+      asked = ap (mmsRated f) e ∙ sym (cond-yes _ _ (nonzero rate d))
+
+      pub rate-passed : {r : Checked} → allowed ≡ true → r ≡ mmsControl f after → r ≡ mmsRate f rate m
+      rate-passed h q = q ∙ sym (cond-yes _ _ h) ∙ asked
+
+      pub rate-exceeded :
+          {a : List Finding} → allowed ≡ false → a ≡ refusal Medium RateExceeded ∷ [] → record { monitor = after; answer = a } ≡ mmsRate f rate m
+      rate-exceeded h q = ends _ q ∙ sym (cond-no _ _ h) ∙ asked
+
+pub mms-checked :
+    (m : Monitor) (f : MmsFrame) {service : ℕ} {write : Bool} {counted : Monitor} {c : Checked} → service ≡ serviceNumber (f .«service_type»)
+    → write ≡ isWrite (f .«service_type») → counted ≡ countedMms m → c ≡ mmsChecks counted (mmsReadWith service write f) → c ≡ checkedMms m f
+mms-checked m f {counted = counted} s w n e =
+    counted-checked (λ x. mmsChecks x (mmsRead f)) n (e ∙ λ i. mmsChecks counted (mmsReadWith (s i) (w i) f))

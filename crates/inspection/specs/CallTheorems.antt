@@ -2,9 +2,9 @@
 use Prim.Native.Nat.{ℕ, zero, suc, _+_, _-_, _<_, _≤_, _%_, _^_, min}
 use mathlib.Core.Bool.{Bool, false}
 use mathlib.Core.List.{List, [], _∷_, _++_, map}
-use mathlib.Core.Option.{none, some}
+use mathlib.Core.Option.{Option, none, some}
 use mathlib.Core.Path.{_≡_}
-use lib.ListN.{length, take}
+use lib.ListN.{length, take, getD}
 use Rattle.records.specs.declared.alert.CodedAlert.{CodedAlert}
 use Rattle.records.specs.declared.error.VsError.{VsError}
 use Rattle.records.specs.declared.frame.MmsFrame.{MmsFrame}
@@ -12,19 +12,24 @@ use Rattle.records.specs.declared.frame.GooseFrame.{GooseFrame}
 use Rattle.records.specs.declared.frame.SvFrame.{SvFrame}
 use Rattle.records.specs.declared.result.InspectResult.{InspectResult}
 use Rattle.records.specs.Alert.{sourceSv}
+use Rattle.records.specs.Error.{errorNumber}
 use Rattle.records.specs.Result.{cleanResult}
 use Rattle.wire.specs.declared.sv.Parsed.{Parsed}
 use Rattle.wire.specs.declared.sv.Parsed.the-variants as parsed
 use Rattle.wire.specs.Sv.{svFrame}
-use Rattle.inspection.specs.declared.rules.Added.the-variants as added
-use Rattle.inspection.specs.declared.monitor.Iec61850Monitor.{Iec61850Monitor}
-use Rattle.inspection.specs.declared.monitor.Rules.{Rules}
+use Rattle.checks.specs.declared.rules.Added.{Added}
+use Rattle.checks.specs.declared.rules.Added.the-variants as added
+use Rattle.checks.specs.Rules.{addAnswer}
+use Rattle.monitor.specs.Monitor.{Monitor, Sized}
+use Rattle.monitor.specs.Parts.{mmsAddedOn, gooseAddedOn, svAddedOn}
+use Rattle.monitor.specs.Reset.{newMonitor}
+use Rattle.monitor.specs.Totals.{total, mmsTotalInspected, gooseTotalInspected, svTotalInspected, totalAlerts}
+use Rattle.inspection.specs.Address.{addressOf}
 use Rattle.inspection.specs.Calls.{Call, setting, mms, goose, sv, rawSv, reset, newMmsRule, newGoosePublisher, newSvPublisher, called, afterCalls}
 use Rattle.inspection.specs.InspectMms.{inspectMms}
 use Rattle.inspection.specs.InspectGoose.{inspectGoose}
 use Rattle.inspection.specs.InspectSv.{inspectSv, inspectRawSv}
-use Rattle.inspection.specs.Monitor.{newMonitor, addMmsRule, addGoosePublisher, addSvPublisher, mmsTotalInspected, gooseTotalInspected, svTotalInspected, totalAlerts}
-use Rattle.inspection.specs.Rules.{addAnswer, addedNumber}
+use Rattle.inspection.specs.Report.{withAllowed}
 
 -- ---- settings and rules
 
@@ -39,23 +44,30 @@ Inspections (rawSv octets time ∷ calls) = Inspections calls
 Inspections (reset ∷ calls) = ⊥
 
 -- the same settings and rules
-pub record SameRules (m m′ : Iec61850Monitor) : Type 0 where
+pub record SameRules (m m′ : Monitor) : Type 0 where
   pub settings : m′ .settings ≡ m .settings
-  pub rules : m′ .rules ≡ m .rules
+  pub mms : m′ .«mms_rules» ≡ m .«mms_rules»
+  pub goose : m′ .«goose_publishers» ≡ m .«goose_publishers»
+  pub sv : m′ .«sv_publishers» ≡ m .«sv_publishers»
 
 -- "Rules (made by the add and set calls, read by the inspections)": inspections change none of them
 abbrev pub InspectionsKeepRules : Type 0
-InspectionsKeepRules = (m : Iec61850Monitor) (calls : List Call) → Inspections calls → SameRules m (afterCalls m calls)
+InspectionsKeepRules = (m : Monitor) (calls : List Call) → Inspections calls → SameRules m (afterCalls m calls)
 
 -- at most 16 rules of each kind
-pub record AtMost16 (r : Rules) : Type 0 where
-  pub mms : r .mms .count ≤ 16
-  pub goose : r .goose .count ≤ 16
-  pub sv : r .sv .count ≤ 16
+pub record AtMost16 (m : Monitor) : Type 0 where
+  pub mms : getD (m .«mms_rules») 48 0 ≤ 16
+  pub goose : getD (m .«goose_publishers») 176 0 ≤ 16
+  pub sv : getD (m .«sv_publishers») 192 0 ≤ 16
 
 -- "At most 16 MMS rules, 16 GOOSE and 16 SV publishers": no calls lead to more
 abbrev pub RuleCountsHold : Type 0
-RuleCountsHold = (strict : Bool) (calls : List Call) → AtMost16 (afterCalls (newMonitor strict) calls .rules)
+RuleCountsHold = (strict : Bool) (calls : List Call) → AtMost16 (afterCalls (newMonitor strict) calls)
+
+-- the number of an add call's error, none where the rule was added
+abbrev pub addedNumber : Added → Option ℕ
+addedNumber added.Rule = none
+addedNumber (added.Error e) = some (errorNumber e)
 
 -- refusals 1 and 2 by their numbers: 6 on 16 rules, then 9 for a name over 64 octets, else added
 abbrev pub RefusalNumbers : Type 0
@@ -72,16 +84,16 @@ abbrev pub alertsIn : InspectResult → List CodedAlert
 alertsIn r = take (r .«alert_count») (r .alerts)
 
 -- the alerts of a call; a set or add call and a reset have none
-abbrev pub alertsOf : Iec61850Monitor → Call → List CodedAlert
+abbrev pub alertsOf : Monitor → Call → List CodedAlert
 alertsOf m (setting s) = []
-alertsOf m (mms f) = alertsIn (inspectMms m f .result)
-alertsOf m (goose f) = alertsIn (inspectGoose m f .result)
-alertsOf m (sv f) = alertsIn (inspectSv m f .result)
-alertsOf m (rawSv octets time) = alertsIn (inspectRawSv m octets time .result)
+alertsOf m (mms f) = alertsIn (inspectMms m f .answer)
+alertsOf m (goose f) = alertsIn (inspectGoose m f .answer)
+alertsOf m (sv f) = alertsIn (inspectSv m f .answer)
+alertsOf m (rawSv octets time) = alertsIn (inspectRawSv m octets time .answer .result)
 alertsOf m reset = []
 
 -- how many they are
-abbrev pub alertCount : Iec61850Monitor → Call → ℕ
+abbrev pub alertCount : Monitor → Call → ℕ
 alertCount m c = length (alertsOf m c)
 
 -- a result with as many alerts as its count says, at most three, and none dropped
@@ -93,11 +105,11 @@ pub record AtMostThree (r : InspectResult) : Type 0 where
 -- "up to 4 alerts with codes, and a truncated mark": no inspection finds a fourth
 abbrev pub ResultsNotTruncated : Type 0
 ResultsNotTruncated =
-    (m : Iec61850Monitor)
-    → ((f : MmsFrame) → AtMostThree (inspectMms m f .result))
-    × ((f : GooseFrame) → AtMostThree (inspectGoose m f .result))
-    × ((f : SvFrame) → AtMostThree (inspectSv m f .result))
-    × ((octets : List ℕ) (time : ℕ) → AtMostThree (inspectRawSv m octets time .result))
+    (m : Monitor)
+    → ((f : MmsFrame) → AtMostThree (inspectMms m f .answer))
+    × ((f : GooseFrame) → AtMostThree (inspectGoose m f .answer))
+    × ((f : SvFrame) → AtMostThree (inspectSv m f .answer))
+    × ((octets : List ℕ) (time : ℕ) → AtMostThree (inspectRawSv m octets time .answer .result))
 
 -- ---- totals
 
@@ -125,14 +137,14 @@ unlessReset (rawSv octets time) first n = n
 unlessReset reset first n = first
 
 -- what a number comes to: each call adds to it, and a reset sets it to the first
-abbrev pub countFrom : (Iec61850Monitor → Call → ℕ) → ℕ → Iec61850Monitor → ℕ → List Call → ℕ
+abbrev pub countFrom : (Monitor → Call → ℕ) → ℕ → Monitor → ℕ → List Call → ℕ
 countFrom adds first m n [] = n
 countFrom adds first m n (c ∷ calls) = countFrom adds first (called m c) (unlessReset c first (n + adds m c)) calls
 
--- a total within 64 bits is, after any calls, that count or the most that 64 bits hold
-abbrev pub Counts : (Iec61850Monitor → ℕ) → (Iec61850Monitor → Call → ℕ) → Type 0
+-- a total within 64 bits is, after any calls, that count or the most that 64 bits hold. A monitor of 1218 words has parts of their sizes
+abbrev pub Counts : (Monitor → ℕ) → (Monitor → Call → ℕ) → Type 0
 Counts total adds =
-    (m : Iec61850Monitor) (calls : List Call) → total m < 2 ^ 64
+    (m : Monitor) (calls : List Call) → Sized m → total m < 2 ^ 64
     → total (afterCalls m calls) ≡ min (countFrom adds 0 m (total m) calls) (2 ^ 64 - 1)
 
 -- "The alert total and the three inspection counts saturate", and "a refused inspection counts the frame and its alerts"
@@ -146,15 +158,15 @@ TotalsCount =
 -- ---- alert numbers
 
 -- the number that the next alert gets
-abbrev pub nextNumber : Iec61850Monitor → ℕ
-nextNumber m = m .totals .alerts .«next_alert_id»
+abbrev pub nextNumber : Monitor → ℕ
+nextNumber m = total m 3
 
 -- the numbers that alerts have
 abbrev pub numbersIn : List CodedAlert → List ℕ
 numbersIn alerts = map (λ (a : CodedAlert). a .alert .id) alerts
 
 -- the numbers of all alerts of the calls, in order
-abbrev pub alertNumbers : Iec61850Monitor → List Call → List ℕ
+abbrev pub alertNumbers : Monitor → List Call → List ℕ
 alertNumbers m [] = []
 alertNumbers m (c ∷ calls) = numbersIn (alertsOf m c) ++ alertNumbers (called m c) calls
 
@@ -164,7 +176,7 @@ numbersFrom n zero = []
 numbersFrom n (suc k) = n % 2 ^ 64 ∷ numbersFrom (n + 1) k
 
 -- numbers for all alerts of the calls, one after another, from 1 again after a reset
-abbrev pub consecutive : Iec61850Monitor → ℕ → List Call → List ℕ
+abbrev pub consecutive : Monitor → ℕ → List Call → List ℕ
 consecutive m n [] = []
 consecutive m n (c ∷ calls) =
     numbersFrom n (alertCount m c) ++ consecutive (called m c) (unlessReset c 1 (n + alertCount m c)) calls
@@ -172,35 +184,35 @@ consecutive m n (c ∷ calls) =
 -- "An alert has the next number (from 1, wrapping in 64 bits)", and the monitor goes on from there
 abbrev pub AlertNumbersConsecutive : Type 0
 AlertNumbersConsecutive =
-    (m : Iec61850Monitor) (calls : List Call) → nextNumber m < 2 ^ 64
+    (m : Monitor) (calls : List Call) → Sized m → nextNumber m < 2 ^ 64
     → (alertNumbers m calls ≡ consecutive m (nextNumber m) calls)
     × (nextNumber (afterCalls m calls) ≡ countFrom alertCount 1 m (nextNumber m) calls % 2 ^ 64)
 
 -- ---- refused calls
 
 -- a call that is answered by an error
-pub data AnsweredByError (m : Iec61850Monitor) : Call → Type 0 where
-  mmsRuleError : (mask : ℕ) (on : Bool) (rate : ℕ) (e : VsError) → addMmsRule m mask on rate .answer ≡ added.Error e
+pub data AnsweredByError (m : Monitor) : Call → Type 0 where
+  mmsRuleError : (mask : ℕ) (on : Bool) (rate : ℕ) (e : VsError) → mmsAddedOn m mask on rate .answer ≡ added.Error e
       → AnsweredByError m (setting (newMmsRule mask on rate))
-  goosePublisherError : (mac name : List ℕ) (e : VsError) → addGoosePublisher m mac name .answer ≡ added.Error e
+  goosePublisherError : (mac name : List ℕ) (e : VsError) → gooseAddedOn m (addressOf mac) name .answer ≡ added.Error e
       → AnsweredByError m (setting (newGoosePublisher mac name))
-  svPublisherError : (mac svid : List ℕ) (rate : ℕ) (e : VsError) → addSvPublisher m mac svid rate .answer ≡ added.Error e
+  svPublisherError : (mac svid : List ℕ) (rate : ℕ) (e : VsError) → svAddedOn m (addressOf mac) svid rate .answer ≡ added.Error e
       → AnsweredByError m (setting (newSvPublisher mac svid rate))
-  rawFrameError : (octets : List ℕ) (time : ℕ) (e : VsError) → inspectRawSv m octets time .answer ≡ parsed.Error e
+  rawFrameError : (octets : List ℕ) (time : ℕ) (e : VsError) → inspectRawSv m octets time .answer .answer ≡ parsed.Error e
       → AnsweredByError m (rawSv octets time)
 
 -- refusals 1 to 3: "changes nothing", "no frame"
 abbrev pub RefusedChangesNothing : Type 0
-RefusedChangesNothing = (m : Iec61850Monitor) (c : Call) → AnsweredByError m c → called m c ≡ m
+RefusedChangesNothing = (m : Monitor) (c : Call) → AnsweredByError m c → called m c ≡ m
 
 -- so a refused call may be left out, wherever it stands
 abbrev pub RefusedLeftOut : Type 0
 RefusedLeftOut =
-    (m : Iec61850Monitor) (before : List Call) (c : Call) (further : List Call) → AnsweredByError (afterCalls m before) c
+    (m : Monitor) (before : List Call) (c : Call) (further : List Call) → AnsweredByError (afterCalls m before) c
     → afterCalls m (before ++ c ∷ further) ≡ afterCalls m (before ++ further)
 
--- refusal 3: a clean result stands beside the error
-abbrev pub UnreadableIsClean : Type 0
-UnreadableIsClean =
-    (m : Iec61850Monitor) (octets : List ℕ) (time : ℕ) (e : VsError)
-    → inspectRawSv m octets time .answer ≡ parsed.Error e → inspectRawSv m octets time .result ≡ cleanResult sourceSv
+-- refusal 3: beside the error stands a result without alerts that does not allow the frame
+abbrev pub UnreadableNotAllowed : Type 0
+UnreadableNotAllowed =
+    (m : Monitor) (octets : List ℕ) (time : ℕ) (e : VsError) → inspectRawSv m octets time .answer .answer ≡ parsed.Error e
+    → inspectRawSv m octets time .answer .result ≡ withAllowed (cleanResult sourceSv) false

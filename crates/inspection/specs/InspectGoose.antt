@@ -3,110 +3,119 @@ use Prim.Native.Nat.{ℕ}
 use mathlib.Core.Bool.{Bool, true, _&&_, not, cond}
 use mathlib.Core.List.{List, [], _∷_, _++_}
 use lib.Dec.{ltb}
+use lib.ListN.{getD}
 use Rattle.records.specs.declared.alert.AlertSeverity.the-variants.{Medium, High}
-use Rattle.records.specs.declared.alert.AlertCode.the-variants.{ReplayDetected, PolicyViolation, CbHijack, RetransmissionAnomaly}
+use Rattle.records.specs.declared.alert.AlertCode.the-variants.{ReplayDetected, PolicyViolation, RetransmissionAnomaly}
 use Rattle.records.specs.declared.frame.GooseFrame.{GooseFrame}
-use Rattle.records.specs.declared.search.Found.{Found}
+use Rattle.records.specs.declared.result.InspectResult.{InspectResult}
 use Rattle.records.specs.Alert.{sourceGoose}
+use Rattle.records.specs.Hash.{fnv1a}
+use Rattle.records.specs.Name.{nameOf}
 use Rattle.records.specs.Search.{isFound}
-use Rattle.inspection.specs.declared.goose_publisher.GoosePublishers.{GoosePublishers}
-use Rattle.inspection.specs.declared.goose_seq.GooseSeqTable.{GooseSeqTable}
-use Rattle.inspection.specs.declared.goose_seq.GooseChecked.{GooseChecked}
-use Rattle.inspection.specs.declared.monitor.Iec61850Monitor.{Iec61850Monitor}
-use Rattle.inspection.specs.declared.monitor.Inspected.{Inspected}
-use Rattle.inspection.specs.declared.settings.Settings.{Settings}
-use Rattle.inspection.specs.declared.reservation.CbReservations.{CbReservations}
-use Rattle.inspection.specs.declared.reservation.CbChecked.{CbChecked}
-use Rattle.inspection.specs.declared.rules.RuleCheck.{RuleCheck}
-use Rattle.inspection.specs.declared.rules.RuleCheck.the-variants.{Refused, Rate}
-use Rattle.inspection.specs.declared.time_field.TimeTrackers.{TimeTrackers}
-use Rattle.inspection.specs.declared.time_field.TimeChecked.{TimeChecked}
+use Rattle.checks.specs.GoosePublisher.{goosePublisher}
+use Rattle.checks.specs.GooseSeq.{retxChecked}
+use Rattle.checks.specs.Keys.{plainKey, gooseKey, reservationKey}
+use Rattle.monitor.specs.Monitor.{Monitor}
+use Rattle.monitor.specs.Parts.{After, gooseSeqOn, timeFieldOn, cbOn}
+use Rattle.monitor.specs.Settings.{blockTestFrames, retxSchedule, retxEnforce, timeMaxForwardJump}
+use Rattle.monitor.specs.Totals.{countedGoose}
+use Rattle.inspection.specs.declared.inspect_goose.GooseNumbers.{GooseNumbers}
 use Rattle.inspection.specs.Address.{addressOf}
-use Rattle.inspection.specs.GoosePublisher.{goosePublisher}
-use Rattle.inspection.specs.GooseSeq.{controlBlock, gooseKey, gooseTimed, gooseChecked, retxChecked}
-use Rattle.inspection.specs.Monitor.{mmsTotalInspected, svTotalInspected, withTotals, countedGoose, withReservations, withClocks, withGooseStreams}
-use Rattle.inspection.specs.Report.{Finding, Checked, refusal, notice, clockFindings, ended, reported}
-use Rattle.inspection.specs.Reservation.{cbChecked}
-use Rattle.inspection.specs.TimeField.{timeChecked}
+use Rattle.inspection.specs.Report.{Finding, Checked, refusal, notice, clockFindings, ended, unlessHijacked, reported}
 
--- the pair of t, seconds and fraction
+-- the control block's name, the frame's numbers, stNum and sqNum, and the pair of t, seconds and fraction
+abbrev pub controlBlock : GooseFrame → List ℕ
+controlBlock f = nameOf (f .«go_cb_ref») (f .«go_cb_ref_len»)
+
+abbrev pub gooseNumbers : GooseFrame → ℕ × ℕ
+gooseNumbers f = (f .«st_num», f .«sq_num»)
+
 abbrev pub goosePair : GooseFrame → ℕ × ℕ
 goosePair f = (f .«t_seconds_since_epoch», f .«t_fraction_of_second»)
+
+-- what the checks read of a frame: the keys of its control block among the publishers and among the reservations, and its numbers
+pub record GooseRead : Type 0 where
+  pub publisher : List ℕ
+  pub reservation : List ℕ
+  pub numbers : GooseNumbers
+
+abbrev pub gooseReadWith : List ℕ → List ℕ → ℕ → ℕ → GooseFrame → GooseRead
+gooseReadWith publisher reservation address hash f =
+    record {
+      publisher = publisher;
+      reservation = reservation;
+      numbers = record {
+        address = address;
+        hash = hash;
+        «st_num» = f .«st_num»;
+        «sq_num» = f .«sq_num»;
+        test = f .test;
+        «timestamp_us» = f .«timestamp_us»;
+        seconds = f .«t_seconds_since_epoch»;
+        fraction = f .«t_fraction_of_second»;
+      };
+    }
+
+abbrev pub gooseRead : GooseFrame → GooseRead
+gooseRead f =
+    gooseReadWith (plainKey (controlBlock f)) (reservationKey true (controlBlock f)) (addressOf (f .«src_mac»)) (fnv1a (controlBlock f)) f
+
+-- the stream's key, and the numbers with the time
+abbrev pub streamKey : GooseNumbers → List ℕ
+streamKey n = gooseKey (n .address) (n .hash)
+
+abbrev pub timedNumbers : GooseNumbers → (ℕ × ℕ) × ℕ
+timedNumbers n = ((n .«st_num», n .«sq_num»), n .«timestamp_us»)
 
 -- 13. replay: High 3; otherwise a retransmission outside tolerance is Medium 30
 abbrev pub streamFindings : Bool → Bool → List Finding
 streamFindings replay outside =
     cond replay (refusal High ReplayDetected ∷ []) (cond outside (notice Medium RetransmissionAnomaly ∷ []) [])
 
+-- the retransmission is asked for only with enforcement on
+unfoldable pub retransmitted : Monitor → GooseNumbers → Bool
+retransmitted m n = retxEnforce m && retxChecked (retxSchedule m) (m .«goose_seq») (streamKey n) (timedNumbers n)
+
 -- the stream's alerts follow the clock's
-abbrev pub gooseStream : Iec61850Monitor → List Finding → Bool → GooseChecked → Checked
-gooseStream m before outside c = ended (withGooseStreams m (c .table)) (before ++ streamFindings (c .replay) outside)
+abbrev pub gooseStream : List Finding → Bool → After Bool → Checked
+gooseStream before outside c = ended (c .monitor) (before ++ streamFindings (c .answer) outside)
 
--- the retransmission is looked up before anything of the stream is stored
-abbrev pub gooseClock : Iec61850Monitor → GooseFrame → TimeChecked → Checked
-gooseClock m f c =
-    gooseStream (withClocks m (c .table)) (clockFindings (c .alert))
-    (retxChecked (m .settings .«retx_enforce») (m .settings .«retx_schedule») (m .«goose_seq») (gooseKey f) (gooseTimed f))
-    (gooseChecked (m .«goose_seq») (gooseKey f) (gooseTimed f))
+module _ (n : GooseNumbers) where
+  -- the retransmission is looked up before anything of the stream is stored
+  abbrev pub gooseClock : After Bool → Checked
+  gooseClock c =
+      gooseStream (clockFindings (c .answer)) (retransmitted (c .monitor) n) (gooseSeqOn (c .monitor) (streamKey n) (timedNumbers n))
 
--- 12. clock alert: High 31, checking goes on
-unfoldable pub gooseTimeField : Iec61850Monitor → GooseFrame → Checked
-gooseTimeField m f =
-    gooseClock m f (timeChecked (m .«time_trackers») (m .settings .«time_max_forward_jump_s») (addressOf (f .«src_mac»)) (goosePair f))
+  -- 12. clock alert: High 31, checking goes on
+  unfoldable pub gooseTimeField : Monitor → Checked
+  gooseTimeField m = gooseClock (timeFieldOn m (timeMaxForwardJump m) (n .address) (n .seconds, n .fraction))
 
 -- 11. named control block bound to another address: High 29
-abbrev pub gooseBound : Iec61850Monitor → GooseFrame → CbChecked → Checked
-gooseBound m f c =
-    cond (c .hijack) (ended (withReservations m (c .table)) (refusal High CbHijack ∷ [])) (gooseTimeField (withReservations m (c .table)) f)
+unfoldable pub gooseReservation : GooseNumbers → List ℕ → Monitor → Checked
+gooseReservation n reservation m = unlessHijacked (gooseTimeField n) (cbOn m reservation (n .address))
 
--- the control block's reservation
-unfoldable pub gooseReservation : Iec61850Monitor → GooseFrame → Checked
-gooseReservation m f = gooseBound m f (cbChecked (m .«cb_reservations») (controlBlock f) true (addressOf (f .«src_mac»)))
+-- publishers exist, and none fits
+unfoldable pub gooseUnknown : Monitor → ℕ → List ℕ → Bool
+gooseUnknown m address name =
+    ltb 0 (getD (m .«goose_publishers») 176 0) && not (isFound (goosePublisher (m .«goose_publishers») address name))
 
 -- 10. publishers exist, none fits: High 6
-unfoldable pub gooseAllowed : Iec61850Monitor → GooseFrame → Checked
+unfoldable pub gooseAllowed : Monitor → GooseRead → Checked
 gooseAllowed m f =
-    cond (ltb 0 (m .rules .goose .count) && not (isFound (goosePublisher (m .rules .goose) (addressOf (f .«src_mac»)) (controlBlock f))))
-    (ended m (refusal High PolicyViolation ∷ []))
-    (gooseReservation m f)
+    cond (gooseUnknown m (f .numbers .address) (f .publisher)) (ended m (refusal High PolicyViolation ∷ [])) (gooseReservation (f .numbers) (f .reservation) m)
 
 -- a test frame while blocked
-abbrev pub blocked : Settings → GooseFrame → Bool
-blocked s f = s .«block_test_frames» && f .test
+abbrev pub blocked : Monitor → Bool → Bool
+blocked m test = blockTestFrames m && test
 
 -- 9. test frame while blocked: Medium 6
-unfoldable pub gooseTest : Iec61850Monitor → GooseFrame → Checked
-gooseTest m f =
-    cond (blocked (m .settings) f) (ended m (refusal Medium PolicyViolation ∷ [])) (gooseAllowed m f)
+unfoldable pub gooseTest : Monitor → GooseRead → Checked
+gooseTest m f = cond (blocked m (f .numbers .test)) (ended m (refusal Medium PolicyViolation ∷ [])) (gooseAllowed m f)
+
+-- a GOOSE frame counted and checked
+abbrev pub checkedGoose : Monitor → GooseFrame → Checked
+checkedGoose m f = gooseTest (countedGoose m) (gooseRead f)
 
 -- the monitor after a GOOSE frame, and the result
-unfoldable pub inspectGoose : Iec61850Monitor → GooseFrame → Inspected
-inspectGoose m f = reported sourceGoose (f .«st_num») (f .«timestamp_us») (gooseTest (countedGoose m) f)
-
--- ---- the checks over the columns of a monitor, for the code
-
--- what the test flag and the publishers say of a frame, from whether it is a test frame while blocked, how many publishers there are, and
--- the place of the one that fits
-unfoldable pub gooseRuleCheck : Bool → ℕ → Found → RuleCheck
-gooseRuleCheck blockedTest count found =
-    cond blockedTest (Refused Medium PolicyViolation) (cond (ltb 0 count && not (isFound found)) (Refused High PolicyViolation) (Rate 0))
-
--- a monitor with these parts in place of its own: what a GOOSE inspection reads and changes
-abbrev pub withGooseParts : Iec61850Monitor → Settings → GoosePublishers → CbReservations → TimeTrackers → GooseSeqTable → Iec61850Monitor
-withGooseParts m settings publishers reservations clocks streams =
-    record {
-      settings = settings;
-      rules = record { mms = m .rules .mms; goose = publishers; sv = m .rules .sv };
-      «rate_buckets» = m .«rate_buckets»;
-      «goose_seq» = streams;
-      «sv_seq» = m .«sv_seq»;
-      «time_trackers» = clocks;
-      «cb_reservations» = reservations;
-      totals = m .totals;
-    }
-
--- the same with the counts of GOOSE frames and of alerts
-abbrev pub gooseMonitorOf : Iec61850Monitor → Settings → GoosePublishers → CbReservations → TimeTrackers → GooseSeqTable → ℕ → ℕ → ℕ → Iec61850Monitor
-gooseMonitorOf m settings publishers reservations clocks streams total next alerts =
-    withTotals (withGooseParts m settings publishers reservations clocks streams) (mmsTotalInspected m) total (svTotalInspected m)
-    (record { «next_alert_id» = next; «total_alerts» = alerts })
+unfoldable pub inspectGoose : Monitor → GooseFrame → After InspectResult
+inspectGoose m f = reported sourceGoose (f .«st_num») (f .«timestamp_us») (checkedGoose m f)

@@ -1,124 +1,105 @@
 -- The inspection of an MMS frame (01, "Refusals in checking order", 4 to 8; "Remembered tables", reservation).
 use Prim.Native.Nat.{ℕ}
-use mathlib.Core.Bool.{Bool, true, false, _&&_, _||_, not, cond}
+use mathlib.Core.Bool.{Bool, _&&_, _||_, not, cond}
 use mathlib.Core.List.{List, [], _∷_}
 use lib.Dec.{eqb, ltb}
 use lib.ListN.{getD}
 use Rattle.records.specs.declared.alert.AlertSeverity.the-variants.{Low, Medium, High}
 use Rattle.records.specs.declared.alert.AlertCode.the-variants.{WriteProtection, RateExceeded, UnknownFunctionCode, NoMatchingRule, ResourceExhausted}
 use Rattle.records.specs.declared.frame.MmsFrame.{MmsFrame}
+use Rattle.records.specs.declared.result.InspectResult.{InspectResult}
 use Rattle.records.specs.declared.search.Found.{Found}
 use Rattle.records.specs.declared.search.Found.the-variants.{At, Nothing}
 use Rattle.records.specs.Alert.{sourceMms}
 use Rattle.records.specs.Name.{nameOf}
 use Rattle.records.specs.Service.{serviceNumber, isWrite}
-use Rattle.inspection.specs.declared.mms_rule.MmsRules.{MmsRules}
-use Rattle.inspection.specs.declared.monitor.Iec61850Monitor.{Iec61850Monitor}
-use Rattle.inspection.specs.declared.monitor.Inspected.{Inspected}
-use Rattle.inspection.specs.declared.rate.RateBuckets.{RateBuckets}
-use Rattle.inspection.specs.declared.rate.RateChecked.{RateChecked}
-use Rattle.inspection.specs.declared.reservation.CbReservations.{CbReservations}
-use Rattle.inspection.specs.declared.reservation.Reserved.{Reserved}
-use Rattle.inspection.specs.declared.rules.RuleCheck.{RuleCheck}
-use Rattle.inspection.specs.declared.rules.RuleCheck.the-variants.{Refused, Rate}
-use Rattle.inspection.specs.declared.settings.Settings.{Settings}
-use Rattle.inspection.specs.MmsRule.{hasBit, firstRule}
-use Rattle.inspection.specs.Monitor.{gooseTotalInspected, svTotalInspected, withTotals, countedMms, withRates, withReservations}
-use Rattle.inspection.specs.Rate.{rateChecked}
+use Rattle.checks.specs.Keys.{reservationKey}
+use Rattle.checks.specs.MmsRule.{hasBit, firstRule, ruleReadOnly, ruleRate}
+use Rattle.monitor.specs.Monitor.{Monitor}
+use Rattle.monitor.specs.Parts.{After, rateOn, reservedOn, releasedOn}
+use Rattle.monitor.specs.Settings.{strictMode, mmsServiceMask, mmsReadOnly}
+use Rattle.monitor.specs.Totals.{countedMms}
+use Rattle.inspection.specs.declared.inspect_mms.MmsNumbers.{MmsNumbers}
+use Rattle.inspection.specs.declared.report.RuleCheck.{RuleCheck}
+use Rattle.inspection.specs.declared.report.RuleCheck.the-variants.{Refused, Rate}
 use Rattle.inspection.specs.Report.{Finding, Checked, refusal, notice, ended, permitted, reported}
-use Rattle.inspection.specs.Reservation.{reserved, released}
 
--- the control block that a control action names
-abbrev pub domainName : MmsFrame → List ℕ
-domainName f = nameOf (f .domain) (f .«domain_len»)
+-- what the checks read of a frame: the octets of the name that a control action states, and its numbers
+pub record MmsRead : Type 0 where
+  pub domain : List ℕ
+  pub numbers : MmsNumbers
+
+abbrev pub mmsReadWith : ℕ → Bool → MmsFrame → MmsRead
+mmsReadWith service write f =
+    record {
+      domain = f .domain;
+      numbers = record {
+        service = service;
+        write = write;
+        «raw_service_type» = f .«raw_service_type»;
+        «domain_len» = f .«domain_len»;
+        «invoke_id» = f .«invoke_id»;
+        «timestamp_us» = f .«timestamp_us»;
+        «client_id» = f .«client_id»;
+        «control_block_is_goose» = f .«control_block_is_goose»;
+      };
+    }
+
+abbrev pub mmsRead : MmsFrame → MmsRead
+mmsRead f = mmsReadWith (serviceNumber (f .«service_type»)) (isWrite (f .«service_type»)) f
+
+-- the key of the control block that a control action names
+abbrev pub controlKey : MmsRead → List ℕ
+controlKey f = reservationKey (f .numbers .«control_block_is_goose») (nameOf (f .domain) (f .numbers .«domain_len»))
 
 -- a full reservation table gives Low 23 and still allows
 abbrev pub fullFindings : Bool → List Finding
 fullFindings taken = cond taken [] (notice Low ResourceExhausted ∷ [])
 
-abbrev pub mmsReserved : Iec61850Monitor → Reserved → Checked
-mmsReserved m c = ended (withReservations m (c .table)) (fullFindings (c .taken))
+abbrev pub mmsReserved : After Bool → Checked
+mmsReserved c = ended (c .monitor) (fullFindings (c .answer))
 
--- the control actions: SelectControl 11 reserves, CancelControl 12 and Conclude 10 release
-unfoldable pub mmsControl : Iec61850Monitor → MmsFrame → Checked
-mmsControl m f =
-    cond (eqb (serviceNumber (f .«service_type»)) 11)
-    (mmsReserved m (reserved (m .«cb_reservations») (domainName f) (f .«control_block_is_goose») (f .«client_id»)))
-    (cond (eqb (serviceNumber (f .«service_type»)) 12 || eqb (serviceNumber (f .«service_type»)) 10)
-    (ended (withReservations m (released (m .«cb_reservations») (domainName f) (f .«control_block_is_goose») (f .«client_id»))) [])
-    (ended m []))
+-- CancelControl 12 and Conclude 10 release
+abbrev pub releases : ℕ → Bool
+releases service = eqb service 12 || eqb service 10
 
--- 7. the bucket is empty: Medium 4
-abbrev pub mmsRated : Iec61850Monitor → MmsFrame → RateChecked → Checked
-mmsRated m f c =
-    cond (c .allowed) (mmsControl (withRates m (c .table)) f) (ended (withRates m (c .table)) (refusal Medium RateExceeded ∷ []))
+module _ (f : MmsRead) where
+  -- the control actions: SelectControl 11 reserves, CancelControl 12 and Conclude 10 release
+  unfoldable pub mmsControl : Monitor → Checked
+  mmsControl m =
+      cond (eqb (f .numbers .service) 11) (mmsReserved (reservedOn m (controlKey f) (f .numbers .«client_id»)))
+      (cond (releases (f .numbers .service)) (ended (releasedOn m (controlKey f) (f .numbers .«client_id»)) []) (ended m []))
 
--- a rate of 0 is no limit
-unfoldable pub mmsRate : Iec61850Monitor → MmsFrame → ℕ → Checked
-mmsRate m f rate =
-    cond (ltb 0 rate) (mmsRated m f (rateChecked (m .«rate_buckets») (f .«invoke_id») rate (f .«timestamp_us»))) (mmsControl m f)
+  -- 7. the bucket is empty: Medium 4
+  abbrev pub mmsRated : After Bool → Checked
+  mmsRated c = cond (c .answer) (mmsControl (c .monitor)) (ended (c .monitor) (refusal Medium RateExceeded ∷ []))
+
+  -- a rate of 0 is no limit
+  unfoldable pub mmsRate : ℕ → Monitor → Checked
+  mmsRate rate m = cond (ltb 0 rate) (mmsRated (rateOn m (f .numbers .«invoke_id») rate (f .numbers .«timestamp_us»))) (mmsControl m)
 
 -- 6. the applying rule is read-only and a write comes: High 2; otherwise its rate. 8. strict, rules exist, none applies: Medium 16
-abbrev pub mmsRule : Bool → MmsRules → Bool → Found → RuleCheck
-mmsRule strict rules write (At i) =
-    cond (getD (rules .«read_only») i false && write) (Refused High WriteProtection) (Rate (getD (rules .«max_rate_per_sec») i 0))
-mmsRule strict rules write Nothing = cond (strict && ltb 0 (rules .count)) (Refused Medium NoMatchingRule) (Rate 0)
+abbrev pub mmsApplying : Bool → List ℕ → Bool → Found → RuleCheck
+mmsApplying strict rules write (At i) = cond (ruleReadOnly rules i && write) (Refused High WriteProtection) (Rate (ruleRate rules i))
+mmsApplying strict rules write Nothing = cond (strict && ltb 0 (getD rules 48 0)) (Refused Medium NoMatchingRule) (Rate 0)
 
--- 5. read-only and a write: High 2
-abbrev pub mmsReadOnly : Settings → MmsRules → ℕ → Bool → RuleCheck
-mmsReadOnly s rules raw write =
-    cond (s .«mms_read_only» && write) (Refused High WriteProtection) (mmsRule (s .«strict_mode») rules write (firstRule rules raw))
+-- whether a mask refuses a raw number: it is nonzero, and the number is 16 or above or its bit is not in it
+unfoldable pub masked : ℕ → ℕ → Bool
+masked mask raw = ltb 0 mask && not (hasBit mask raw)
 
--- 4. the mask is nonzero, and the raw number is 16 or above or its bit is not in the mask: Medium 7
-unfoldable pub mmsMask : Settings → MmsRules → ℕ → Bool → RuleCheck
-mmsMask s rules raw write =
-    cond (ltb 0 (s .«mms_service_mask») && not (hasBit (s .«mms_service_mask») raw)) (Refused Medium UnknownFunctionCode)
-    (mmsReadOnly s rules raw write)
+-- 4. the mask refuses the raw number: Medium 7. 5. read-only and a write: High 2. Masks use the raw number, write checks the service
+unfoldable pub mmsRule : Monitor → ℕ → Bool → RuleCheck
+mmsRule m raw write =
+    cond (masked (mmsServiceMask m) raw) (Refused Medium UnknownFunctionCode)
+    (cond (mmsReadOnly m && write) (Refused High WriteProtection) (mmsApplying (strictMode m) (m .«mms_rules») write (firstRule (m .«mms_rules») raw)))
 
--- masks use the raw number, write checks the service
-unfoldable pub mmsChecks : Iec61850Monitor → MmsFrame → Checked
-mmsChecks m f =
-    permitted m (mmsRate m f) (mmsMask (m .settings) (m .rules .mms) (f .«raw_service_type») (isWrite (f .«service_type»)))
+unfoldable pub mmsChecks : Monitor → MmsRead → Checked
+mmsChecks m f = permitted m (λ rate. mmsRate f rate m) (mmsRule m (f .numbers .«raw_service_type») (f .numbers .write))
+
+-- an MMS frame counted and checked
+abbrev pub checkedMms : Monitor → MmsFrame → Checked
+checkedMms m f = mmsChecks (countedMms m) (mmsRead f)
 
 -- the monitor after an MMS frame, and the result
-unfoldable pub inspectMms : Iec61850Monitor → MmsFrame → Inspected
-inspectMms m f = reported sourceMms (f .«invoke_id») (f .«timestamp_us») (mmsChecks (countedMms m) f)
-
--- ---- the checks over the columns of a monitor, for the code
-
--- the first alerts: what the rules or the bucket refuse
-abbrev pub mmsFindings : RuleCheck → Bool → List Finding
-mmsFindings (Refused severity code) allowed = refusal severity code ∷ []
-mmsFindings (Rate rate) allowed = cond allowed [] (refusal Medium RateExceeded ∷ [])
-
--- the reservations after a control action, and whether there was a place, true where nothing is reserved
-unfoldable pub cbControlled : CbReservations → MmsFrame → Reserved
-cbControlled r f =
-    cond (eqb (serviceNumber (f .«service_type»)) 11) (reserved r (domainName f) (f .«control_block_is_goose») (f .«client_id»))
-    (cond (eqb (serviceNumber (f .«service_type»)) 12 || eqb (serviceNumber (f .«service_type»)) 10)
-    (record { table = released r (domainName f) (f .«control_block_is_goose») (f .«client_id»); taken = true })
-    (record { table = r; taken = true }))
-
--- the same where the checking may not reach it: such a frame changes nothing
-abbrev pub cbControlledIf : Bool → CbReservations → MmsFrame → Reserved
-cbControlledIf reached r f = cond reached (cbControlled r f) (record { table = r; taken = true })
-
--- a monitor with these parts in place of its own: what an MMS inspection reads and changes
-abbrev pub withMmsParts : Iec61850Monitor → Settings → MmsRules → RateBuckets → CbReservations → Iec61850Monitor
-withMmsParts m settings rules rates reservations =
-    record {
-      settings = settings;
-      rules = record { mms = rules; goose = m .rules .goose; sv = m .rules .sv };
-      «rate_buckets» = rates;
-      «goose_seq» = m .«goose_seq»;
-      «sv_seq» = m .«sv_seq»;
-      «time_trackers» = m .«time_trackers»;
-      «cb_reservations» = reservations;
-      totals = m .totals;
-    }
-
--- the same with the counts of MMS frames and of alerts
-abbrev pub mmsMonitorOf : Iec61850Monitor → Settings → MmsRules → RateBuckets → CbReservations → ℕ → ℕ → ℕ → Iec61850Monitor
-mmsMonitorOf m settings rules rates reservations total next alerts =
-    withTotals (withMmsParts m settings rules rates reservations) total (gooseTotalInspected m) (svTotalInspected m)
-    (record { «next_alert_id» = next; «total_alerts» = alerts })
+unfoldable pub inspectMms : Monitor → MmsFrame → After InspectResult
+inspectMms m f = reported sourceMms (f .«invoke_id») (f .«timestamp_us») (checkedMms m f)

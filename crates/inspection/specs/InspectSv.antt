@@ -5,42 +5,64 @@ use mathlib.Core.List.{List, [], _∷_, _++_}
 use lib.Dec.{eqb, ltb}
 use lib.ListN.{getD}
 use Rattle.records.specs.declared.alert.AlertSeverity.the-variants.{Medium, High}
-use Rattle.records.specs.declared.alert.AlertCode.the-variants.{PolicyViolation, SvReplay, SvRateAnomaly, IedMismatch, CbHijack}
+use Rattle.records.specs.declared.alert.AlertCode.the-variants.{PolicyViolation, SvReplay, SvRateAnomaly, IedMismatch}
 use Rattle.records.specs.declared.frame.SvFrame.{SvFrame}
+use Rattle.records.specs.declared.result.InspectResult.{InspectResult}
 use Rattle.records.specs.Alert.{sourceSv}
 use Rattle.records.specs.Name.{nameOf}
 use Rattle.records.specs.Result.{cleanResult}
 use Rattle.wire.specs.declared.sv.Parsed.{Parsed}
 use Rattle.wire.specs.declared.sv.Parsed.the-variants.{Frame, Error}
 use Rattle.wire.specs.Sv.{svFrame}
-use Rattle.inspection.specs.declared.monitor.Iec61850Monitor.{Iec61850Monitor}
-use Rattle.inspection.specs.declared.monitor.Inspected.{Inspected}
-use Rattle.inspection.specs.declared.monitor.RawInspected.{RawInspected}
-use Rattle.inspection.specs.declared.settings.Settings.{Settings}
-use Rattle.inspection.specs.declared.reservation.CbReservations.{CbReservations}
-use Rattle.inspection.specs.declared.reservation.CbChecked.{CbChecked}
-use Rattle.inspection.specs.declared.sv_publisher.SvPublishers.{SvPublishers}
-use Rattle.inspection.specs.declared.sv_seq.SvSeqTable.{SvSeqTable}
-use Rattle.inspection.specs.declared.time_field.TimeTrackers.{TimeTrackers}
-use Rattle.inspection.specs.declared.rules.RuleCheck.{RuleCheck}
-use Rattle.inspection.specs.declared.rules.RuleCheck.the-variants.{Refused, Rate}
-use Rattle.inspection.specs.declared.sv_publisher.PublisherMatch.{PublisherMatch}
-use Rattle.inspection.specs.declared.sv_publisher.PublisherMatch.the-variants.{NotRegistered, WrongAddress, Fits}
-use Rattle.inspection.specs.declared.sv_seq.SvChecked.{SvChecked}
-use Rattle.inspection.specs.declared.sv_seq.SvSeqOutcome.{SvSeqOutcome}
-use Rattle.inspection.specs.declared.sv_seq.SvSeqOutcome.the-variants.{FirstSeen, Replay, ForwardGap, CycleWrap, SuspiciousSmpGap}
-use Rattle.inspection.specs.declared.time_field.TimeChecked.{TimeChecked}
+use Rattle.checks.specs.declared.sv_publisher.PublisherMatch.{PublisherMatch}
+use Rattle.checks.specs.declared.sv_publisher.PublisherMatch.the-variants.{NotRegistered, WrongAddress, Fits}
+use Rattle.checks.specs.declared.sv_seq.SvSeqOutcome.{SvSeqOutcome}
+use Rattle.checks.specs.declared.sv_seq.SvSeqOutcome.the-variants.{FirstSeen, Replay, ForwardGap, CycleWrap, SuspiciousSmpGap}
+use Rattle.checks.specs.Keys.{plainKey, reservationKey}
+use Rattle.checks.specs.SvPublisher.{svPublisher, publisherRate}
+use Rattle.monitor.specs.Monitor.{Monitor}
+use Rattle.monitor.specs.Parts.{After, svSeqOn, timeFieldOn, cbOn}
+use Rattle.monitor.specs.Settings.{strictMode, timeMaxForwardJump, svMaxSmpCntGap}
+use Rattle.monitor.specs.Totals.{countedSv}
+use Rattle.inspection.specs.declared.inspect_sv.RawSv.{RawSv}
+use Rattle.inspection.specs.declared.inspect_sv.SvNumbers.{SvNumbers}
+use Rattle.inspection.specs.declared.report.RuleCheck.{RuleCheck}
+use Rattle.inspection.specs.declared.report.RuleCheck.the-variants.{Refused, Rate}
 use Rattle.inspection.specs.Address.{addressOf}
-use Rattle.inspection.specs.Monitor.{mmsTotalInspected, gooseTotalInspected, withTotals, countedSv, withReservations, withClocks, withSvStreams}
-use Rattle.inspection.specs.Report.{Finding, Checked, refusal, notice, clockFindings, ended, permitted, rateGiven, reported}
-use Rattle.inspection.specs.Reservation.{cbChecked}
-use Rattle.inspection.specs.SvPublisher.{svPublisher}
-use Rattle.inspection.specs.SvSeq.{svKey, svChecked}
-use Rattle.inspection.specs.TimeField.{timeChecked}
+use Rattle.inspection.specs.Report.{Finding, Checked, refusal, notice, clockFindings, ended, unlessHijacked, permitted, reported, withAllowed}
 
--- the pair of the time field, seconds and fraction
+-- the svID, the data set's name, and the pair of the time field, seconds and fraction
+abbrev pub svidOf : SvFrame → List ℕ
+svidOf f = nameOf (f .svid) (f .«svid_len»)
+
+abbrev pub datasetOf : SvFrame → List ℕ
+datasetOf f = nameOf (f .«dataset_ref») (f .«dataset_ref_len»)
+
 abbrev pub svPair : SvFrame → ℕ × ℕ
 svPair f = (f .«t_seconds_since_epoch», f .«t_fraction_of_second»)
+
+-- what the checks read of a frame: the keys of its svID and data set, and its numbers
+pub record SvRead : Type 0 where
+  pub svid : List ℕ
+  pub dataset : List ℕ
+  pub numbers : SvNumbers
+
+abbrev pub svReadWith : List ℕ → List ℕ → ℕ → SvFrame → SvRead
+svReadWith svid dataset address f =
+    record {
+      svid = svid;
+      dataset = dataset;
+      numbers = record {
+        address = address;
+        seconds = f .«t_seconds_since_epoch»;
+        fraction = f .«t_fraction_of_second»;
+        «smp_cnt» = f .«smp_cnt»;
+        «smp_rate» = f .«smp_rate»;
+      };
+    }
+
+abbrev pub svRead : SvFrame → SvRead
+svRead f = svReadWith (plainKey (svidOf f)) (reservationKey false (datasetOf f)) (addressOf (f .«src_mac»)) f
 
 -- 20. frame's and rule's rates nonzero and unequal: Medium 27
 unfoldable pub rateFindings : ℕ → ℕ → List Finding
@@ -56,81 +78,50 @@ countFindings limit further (ForwardGap gap) = cond (ltb 0 limit && ltb limit ga
 countFindings limit further CycleWrap = further
 countFindings limit further (SuspiciousSmpGap gap) = notice Medium SvRateAnomaly ∷ further
 
--- the count's alerts follow the clock's
-abbrev pub svCount : Iec61850Monitor → SvFrame → ℕ → List Finding → SvChecked → Checked
-svCount m f rate before c =
-    ended (withSvStreams m (c .table))
-    (before ++ countFindings (m .settings .«sv_max_smp_cnt_gap») (rateFindings (f .«smp_rate») rate) (c .outcome))
+module _ (svid : List ℕ) (n : SvNumbers) (rate : ℕ) where
+  -- the count's alerts follow the clock's
+  abbrev pub svCount : List Finding → After SvSeqOutcome → Checked
+  svCount before c = ended (c .monitor) (before ++ countFindings (svMaxSmpCntGap (c .monitor)) (rateFindings (n .«smp_rate») rate) (c .answer))
 
--- the count is checked also after a clock alert
-abbrev pub svClock : Iec61850Monitor → SvFrame → ℕ → TimeChecked → Checked
-svClock m f rate c =
-    svCount (withClocks m (c .table)) f rate (clockFindings (c .alert)) (svChecked (m .«sv_seq») (svKey f) (f .«smp_cnt»))
+  -- the count is checked also after a clock alert
+  abbrev pub svClock : After Bool → Checked
+  svClock c = svCount (clockFindings (c .answer)) (svSeqOn (c .monitor) svid (n .«smp_cnt»))
 
--- 17. clock alert: High 31, checking goes on
-unfoldable pub svTimeField : Iec61850Monitor → SvFrame → ℕ → Checked
-svTimeField m f rate =
-    svClock m f rate (timeChecked (m .«time_trackers») (m .settings .«time_max_forward_jump_s») (addressOf (f .«src_mac»)) (svPair f))
+  -- 17. clock alert: High 31, checking goes on
+  unfoldable pub svTimeField : Monitor → Checked
+  svTimeField m = svClock (timeFieldOn m (timeMaxForwardJump m) (n .address) (n .seconds, n .fraction))
 
 -- 16. data set bound to another address: High 29
-abbrev pub svBound : Iec61850Monitor → SvFrame → ℕ → CbChecked → Checked
-svBound m f rate c =
-    cond (c .hijack) (ended (withReservations m (c .table)) (refusal High CbHijack ∷ [])) (svTimeField (withReservations m (c .table)) f rate)
-
--- the data set's reservation
-unfoldable pub svReservation : Iec61850Monitor → SvFrame → ℕ → Checked
-svReservation m f rate =
-    svBound m f rate (cbChecked (m .«cb_reservations») (nameOf (f .«dataset_ref») (f .«dataset_ref_len»)) false (addressOf (f .«src_mac»)))
+unfoldable pub svReservation : SvRead → ℕ → Monitor → Checked
+svReservation f rate m = unlessHijacked (svTimeField (f .svid) (f .numbers) rate) (cbOn m (f .dataset) (f .numbers .address))
 
 -- 14. svID registered, never with this address: High 28. 15. strict, publishers exist, svID not among them: Medium 6. Otherwise the
 -- rate of the last rule that fits, none for an svID not among them
-abbrev pub svRuleCheck : Bool → ℕ → List ℕ → PublisherMatch → RuleCheck
-svRuleCheck strict count rates WrongAddress = Refused High IedMismatch
-svRuleCheck strict count rates NotRegistered = cond (strict && ltb 0 count) (Refused Medium PolicyViolation) (Rate 0)
-svRuleCheck strict count rates (Fits i) = Rate (getD rates i 0)
+abbrev pub svMatched : Bool → List ℕ → PublisherMatch → RuleCheck
+svMatched strict publishers WrongAddress = Refused High IedMismatch
+svMatched strict publishers NotRegistered = cond (strict && ltb 0 (getD publishers 192 0)) (Refused Medium PolicyViolation) (Rate 0)
+svMatched strict publishers (Fits i) = Rate (publisherRate publishers i)
+
+unfoldable pub svRule : Monitor → ℕ → List ℕ → RuleCheck
+svRule m address svid = svMatched (strictMode m) (m .«sv_publishers») (svPublisher (m .«sv_publishers») address svid)
 
 -- how the svID and the address match the publishers
-unfoldable pub svBinding : Iec61850Monitor → SvFrame → Checked
-svBinding m f =
-    permitted m (svReservation m f)
-    (svRuleCheck (m .settings .«strict_mode») (m .rules .sv .count) (m .rules .sv .«expected_smp_rate»)
-    (svPublisher (m .rules .sv) (addressOf (f .«src_mac»)) (svKey f)))
+unfoldable pub svBinding : Monitor → SvRead → Checked
+svBinding m f = permitted m (λ rate. svReservation f rate m) (svRule m (f .numbers .address) (f .svid))
+
+-- an SV frame counted and checked
+abbrev pub checkedSv : Monitor → SvFrame → Checked
+checkedSv m f = svBinding (countedSv m) (svRead f)
 
 -- the monitor after an SV frame, and the result
-unfoldable pub inspectSv : Iec61850Monitor → SvFrame → Inspected
-inspectSv m f = reported sourceSv (f .«smp_cnt») (f .«timestamp_us») (svBinding (countedSv m) f)
+unfoldable pub inspectSv : Monitor → SvFrame → After InspectResult
+inspectSv m f = reported sourceSv (f .«smp_cnt») (f .«timestamp_us») (checkedSv m f)
 
--- 3. an unreadable frame leaves the monitor, and a clean result stands beside the error
-abbrev pub rawInspected : Iec61850Monitor → Parsed → SvFrame → RawInspected
-rawInspected m Frame f = record { answer = Frame; monitor = inspectSv m f .monitor; result = inspectSv m f .result }
-rawInspected m (Error e) f = record { answer = Error e; monitor = m; result = cleanResult sourceSv }
+-- 3. an unreadable frame leaves the monitor, and is not allowed: a clean result but for that stands beside the error
+abbrev pub rawInspected : Monitor → Parsed → SvFrame → After RawSv
+rawInspected m Frame f = record { monitor = inspectSv m f .monitor; answer = record { answer = Frame; result = inspectSv m f .answer } }
+rawInspected m (Error e) f = record { monitor = m; answer = record { answer = Error e; result = withAllowed (cleanResult sourceSv) false } }
 
 -- the monitor after a raw frame of these octets at a time, and the result
-unfoldable pub inspectRawSv : Iec61850Monitor → List ℕ → ℕ → RawInspected
+unfoldable pub inspectRawSv : Monitor → List ℕ → ℕ → After RawSv
 inspectRawSv m octets time = rawInspected m (svFrame octets time .answer) (svFrame octets time .frame)
-
--- ---- the checks over the columns of a monitor, for the code
-
--- a monitor with these parts in place of its own: what an SV inspection reads and changes
-abbrev pub withSvParts : Iec61850Monitor → Settings → SvPublishers → CbReservations → TimeTrackers → SvSeqTable → Iec61850Monitor
-withSvParts m settings publishers reservations clocks streams =
-    record {
-      settings = settings;
-      rules = record { mms = m .rules .mms; goose = m .rules .goose; sv = publishers };
-      «rate_buckets» = m .«rate_buckets»;
-      «goose_seq» = m .«goose_seq»;
-      «sv_seq» = streams;
-      «time_trackers» = clocks;
-      «cb_reservations» = reservations;
-      totals = m .totals;
-    }
-
--- the same with the counts of SV frames and of alerts
-abbrev pub svMonitorOf : Iec61850Monitor → Settings → SvPublishers → CbReservations → TimeTrackers → SvSeqTable → ℕ → ℕ → ℕ → Iec61850Monitor
-svMonitorOf m settings publishers reservations clocks streams total next alerts =
-    withTotals (withSvParts m settings publishers reservations clocks streams) (mmsTotalInspected m) (gooseTotalInspected m) total
-    (record { «next_alert_id» = next; «total_alerts» = alerts })
-
--- the rate that a frame's is compared with, none where the checking ended before
-abbrev pub rateReached : RuleCheck → Bool → ℕ
-rateReached rule hijack = cond hijack 0 (rateGiven rule)

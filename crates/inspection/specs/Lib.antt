@@ -1,15 +1,4 @@
 pub mod Address
-pub mod Settings
-pub mod Rules
-pub mod MmsRule
-pub mod GoosePublisher
-pub mod SvPublisher
-pub mod Rate
-pub mod GooseSeq
-pub mod SvSeq
-pub mod TimeField
-pub mod Reservation
-pub mod Monitor
 pub mod Report
 pub mod InspectMms
 pub mod InspectGoose

@@ -1,9 +1,9 @@
--- The starred reference points of 01 that live in this crate, and the table of those of all crates.
+-- The starred reference points of 01 about SV counts, and the table of those of all crates.
 use Prim.Native.Nat.{ℕ}
 use mathlib.Core.List.{List, [], _∷_, _++_}
 use Rattle.records.specs.Points.{Point, recordsPoints}
 use Rattle.wire.specs.Points.{wirePoints}
-use Rattle.inspection.specs.SvSeq.{countOutcome, outcomeNumber, outcomeGap}
+use Rattle.checks.specs.SvSeq.{countOutcome, outcomeNumber, outcomeGap}
 
 -- a count and the next one as a row: the outcome's number and its gap
 abbrev pub countPoint : ℕ → ℕ → ℕ → ℕ → Point

@@ -8,20 +8,21 @@ use Rattle.records.specs.declared.alert.AlertSeverity.{AlertSeverity}
 use Rattle.records.specs.declared.alert.AlertSeverity.the-variants.{High}
 use Rattle.records.specs.declared.alert.AlertCode.{AlertCode}
 use Rattle.records.specs.declared.alert.AlertCode.the-variants.{CbHijack, TimeSyncSpoofing}
+use Rattle.records.specs.declared.result.AlertCounters.{AlertCounters}
 use Rattle.records.specs.declared.result.InspectResult.{InspectResult}
 use Rattle.records.specs.declared.result.Pushed.{Pushed}
 use Rattle.records.specs.Alert.{severityNumber, codeNumber, denies}
 use Rattle.records.specs.Result.{cleanResult, counted, pushed}
 use Rattle.records.specs.Verdict.{verdictOf}
-use Rattle.inspection.specs.declared.monitor.Iec61850Monitor.{Iec61850Monitor}
-use Rattle.inspection.specs.declared.monitor.Inspected.{Inspected}
+use Rattle.monitor.specs.Monitor.{Monitor}
+use Rattle.monitor.specs.Parts.{After}
+use Rattle.monitor.specs.Totals.{alertCounters, withAlerts}
 use Rattle.inspection.specs.declared.report.CheckAlert.{CheckAlert}
 use Rattle.inspection.specs.declared.report.CheckAlert.the-variants.{Nothing, Refusal, Notice}
 use Rattle.inspection.specs.declared.report.CheckAlerts.{CheckAlerts}
 use Rattle.inspection.specs.declared.report.Noted.{Noted}
-use Rattle.inspection.specs.declared.rules.RuleCheck.{RuleCheck}
-use Rattle.inspection.specs.declared.rules.RuleCheck.the-variants.{Refused, Rate}
-use Rattle.inspection.specs.Monitor.{withAlerts}
+use Rattle.inspection.specs.declared.report.RuleCheck.{RuleCheck}
+use Rattle.inspection.specs.declared.report.RuleCheck.the-variants.{Refused, Rate}
 
 -- an alert of a check, and whether it refuses the frame
 pub record Finding : Type 0 where
@@ -42,16 +43,19 @@ abbrev pub clockFindings : Bool → List Finding
 clockFindings alert = cond alert (refusal High TimeSyncSpoofing ∷ []) []
 
 -- an inspection after its checks: the monitor, and the alerts in their order
-pub record Checked : Type 0 where
-  pub monitor : Iec61850Monitor
-  pub findings : List Finding
+abbrev pub Checked : Type 0
+Checked = After (List Finding)
 
 -- checking ends here
-abbrev pub ended : Iec61850Monitor → List Finding → Checked
-ended m findings = record { monitor = m; findings = findings }
+abbrev pub ended : Monitor → List Finding → Checked
+ended m findings = record { monitor = m; answer = findings }
+
+-- a control block or data set bound to another address: High 29, and checking ends
+abbrev pub unlessHijacked : (Monitor → Checked) → After Bool → Checked
+unlessHijacked next c = cond (c .answer) (ended (c .monitor) (refusal High CbHijack ∷ [])) (next (c .monitor))
 
 -- checking ends where the rules refuse, and goes on with the rate that they give
-abbrev pub permitted : Iec61850Monitor → (ℕ → Checked) → RuleCheck → Checked
+abbrev pub permitted : Monitor → (ℕ → Checked) → RuleCheck → Checked
 permitted m next (Refused severity code) = ended m (refusal severity code ∷ [])
 permitted m next (Rate rate) = next rate
 
@@ -71,27 +75,19 @@ abbrev pub reportedNext : ℕ → ℕ → ℕ → Pushed → Finding → Pushed
 reportedNext source sourceNumber time p a =
     pushed (withAllowed (p .result) (p .result .allowed && not (a .refuses))) (p .counters) (a .severity) source sourceNumber time (a .code)
 
--- the result of an inspection, clean but for its alerts, and the monitor with the alerts counted
-unfoldable pub reported : ℕ → ℕ → ℕ → Checked → Inspected
-reported source sourceNumber time c = inspected (foldl (reportedNext source sourceNumber time) start (c .findings))
-  where
-    start : Pushed
-    start = record { result = cleanResult source; counters = c .monitor .totals .alerts }
+-- a clean result and the counters, with the alerts
+unfoldable pub alertsPushed : ℕ → ℕ → ℕ → AlertCounters → List Finding → Pushed
+alertsPushed source sourceNumber time counters findings =
+    foldl (reportedNext source sourceNumber time) (record { result = cleanResult source; counters = counters }) findings
 
-    inspected : Pushed → Inspected
-    inspected p = record { monitor = withAlerts (c .monitor) (p .counters); result = p .result }
+-- the result of an inspection, and the monitor with the alerts counted
+abbrev pub pushedOn : Monitor → Pushed → After InspectResult
+pushedOn m p = record { monitor = withAlerts m (p .counters); answer = p .result }
 
--- ---- for the code: what it asks of the rules' answer, and keeps of the findings
+unfoldable pub reported : ℕ → ℕ → ℕ → Checked → After InspectResult
+reported source sourceNumber time c = pushedOn (c .monitor) (alertsPushed source sourceNumber time (alertCounters (c .monitor)) (c .answer))
 
--- whether the rules let a frame pass
-abbrev pub permits : RuleCheck → Bool
-permits (Refused severity code) = false
-permits (Rate rate) = true
-
--- the rate that they give it, 0 where they refuse it
-abbrev pub rateGiven : RuleCheck → ℕ
-rateGiven (Refused severity code) = 0
-rateGiven (Rate rate) = rate
+-- ---- for the code: what it keeps of the findings
 
 -- the alerts of a check's answer
 abbrev pub findingsOf : CheckAlert → List Finding
@@ -103,11 +99,6 @@ findingsOf (Notice severity code) = notice severity code ∷ []
 abbrev pub alertsOf : CheckAlerts → List Finding
 alertsOf a = findingsOf (a .first) ++ (findingsOf (a .second) ++ findingsOf (a .third))
 
--- the first alerts of a GOOSE or SV frame: what ended the checking, or the clock's
-abbrev pub firstFindings : RuleCheck → Bool → Bool → List Finding
-firstFindings (Refused severity code) hijack clock = refusal severity code ∷ []
-firstFindings (Rate rate) hijack clock = cond hijack (refusal High CbHijack ∷ []) (clockFindings clock)
-
 -- whether a check found nothing
 abbrev pub isNothing : CheckAlert → Bool
 isNothing Nothing = true
@@ -115,12 +106,16 @@ isNothing (Refusal severity code) = false
 isNothing (Notice severity code) = false
 
 -- whether three checks found nothing
-abbrev pub noneFound : CheckAlert → CheckAlert → CheckAlert → Bool
-noneFound first second third = isNothing first && (isNothing second && isNothing third)
+abbrev pub noneFound : CheckAlerts → Bool
+noneFound a = isNothing (a .first) && (isNothing (a .second) && isNothing (a .third))
 
 -- the verdict of a result, and the counters
 abbrev pub notedOf : Pushed → Noted
 notedOf p = record { verdict = verdictOf (p .result); counters = p .counters }
+
+-- the verdict on a frame without alerts
+abbrev pub cleanVerdict : List ℕ
+cleanVerdict = 1 ∷ 0 ∷ 0 ∷ 0 ∷ 0 ∷ 0 ∷ 0 ∷ 0 ∷ []
 
 -- the octet that says whether a frame is allowed, after an alert: 0 where it refuses the frame or is High or Critical
 abbrev pub allowedOctet : ℕ → AlertSeverity → Bool → ℕ
@@ -138,3 +133,7 @@ alertNoted n f = cond (ltb count 3) (record { verdict = with-alert; counters = c
 
     with-alert : List ℕ
     with-alert = set (set flagged (2 + 2 * count) (codeNumber (f .code))) (2 + 2 * count + 1) (severityNumber (f .severity))
+
+-- the verdict of an inspection, in place of its result
+abbrev pub withVerdict : After InspectResult → After (List ℕ)
+withVerdict a = record { monitor = a .monitor; answer = verdictOf (a .answer) }

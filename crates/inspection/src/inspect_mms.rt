@@ -1,47 +1,56 @@
-// The inspection of an MMS frame, carried over from industrial/iec61850-monitor/src/lib.rs of craton-shield a31d888527
-// (Apache-2.0) and changed: the checks in a row, over lent columns, the rules first; the alerts added at the end.
-ghost use Prim.Native.Nat.{ℕ};
+// The inspection of an MMS frame, carried over from industrial/iec61850-monitor/src/lib.rs of craton-shield a31d888527 (Apache-2.0) and changed: a
+// chain of stages on the monitor's words, each of which ends the checking or calls the next; the alerts added at the end.
 ghost use mathlib.Core.Path.{_≡_};
-ghost use mathlib.Core.Bool.{Bool, _&&_, _||_, not};
-ghost use mathlib.Core.List.{List};
-ghost use lib.Dec.{eqb, ltb};
-ghost use Rattle.inspection.specs.InspectMms.{domainName, fullFindings, mmsFindings, mmsRule, mmsMask, mmsChecks, inspectMms, cbControlledIf, withMmsParts, mmsMonitorOf};
-ghost use Rattle.inspection.specs.MmsRule.{hasBit};
-ghost use Rattle.inspection.specs.Rate.{bucketTableOf};
-ghost use Rattle.inspection.specs.Report.{ended, findingsOf, alertsOf};
-ghost use Rattle.inspection.specs.Reservation.{released, cbTableOf};
-use crate::mms_rule::MmsRules;
-use crate::mms_rule::first_rule;
-use crate::mms_rule::has_bit;
-use crate::monitor::Iec61850Monitor;
-use crate::monitor::Inspected;
-use crate::rate::RateBuckets;
-use crate::rate::rate_check_if;
+ghost use Rattle.monitor.specs.Monitor.{monitorOf};
+ghost use Rattle.monitor.specs.Settings.{strictMode};
+ghost use Rattle.inspection.specs.InspectMms.{controlKey, fullFindings, releases, mmsControl, mmsRate, mmsApplying, masked};
+ghost use Rattle.inspection.specs.InspectMms.{mmsRule, mmsChecks, checkedMms, inspectMms};
+ghost use Rattle.inspection.specs.Report.{findingsOf, alertsOf, withVerdict};
 use crate::report::CheckAlert;
 use crate::report::CheckAlerts;
-use crate::report::goes_on;
-use crate::report::push_alerts_in;
-use crate::reservation::CbReservations;
-use crate::reservation::release_cb_in;
-use crate::reservation::reserve_cb_in;
-use crate::rules::RuleCheck;
-use crate::settings::Settings;
-use records::ageing::Ageing;
+use crate::report::RuleCheck;
+use crate::report::one_alert;
+use crate::report::refused;
+use crate::report::report_on;
+use crate::report::verdict_on;
+use checks::keys::reservation_key;
+use checks::mms_rule::has_bit;
+use monitor::parts::first_rule_on;
+use monitor::parts::mms_rule_count_on;
+use monitor::parts::rate_check_on;
+use monitor::parts::release_cb_on;
+use monitor::parts::reserve_cb_on;
+use monitor::parts::rule_rate_on;
+use monitor::parts::rule_read_only_on;
+use monitor::settings::MMS_READ_ONLY;
+use monitor::settings::MMS_SERVICE_MASK;
+use monitor::settings::STRICT_MODE;
+use monitor::settings::flag_on;
+use monitor::settings::setting_on;
+use monitor::totals::MMS_TOTAL_INSPECTED;
+use monitor::totals::count_frame_on;
 use records::alert::AlertCode;
 use records::alert::AlertSeverity;
 use records::alert::SOURCE_IEC61850_MMS;
-use records::counter::saturating_increment;
 use records::frame::MmsFrame;
-use records::name::Names;
-use records::name::padded;
-use records::name::valid_len;
-use records::result::AlertCounters;
 use records::result::InspectResult;
 use records::search::Found;
 
+// What the checks read of a frame beside the name that a control action states.
+pub struct MmsNumbers {
+    pub service: u8,
+    pub write: bool,
+    pub raw_service_type: u8,
+    pub domain_len: u8,
+    pub invoke_id: u32,
+    pub timestamp_us: u64,
+    pub client_id: u32,
+    pub control_block_is_goose: bool,
+}
+
 // Whether a mask refuses a raw number; a mask of 0 refuses none.
-fn masked(mask: u16, raw: u8) -> bool
-    ensures { λ r. ⌜ r ≡ (ltb 0 mask && not (hasBit mask raw)) ⌝ }
+fn masked(mask: u64, raw: u8) -> bool
+    ensures { λ r. ⌜ r ≡ masked mask raw ⌝ }
 {
     if mask == 0 {
         return false;
@@ -49,22 +58,20 @@ fn masked(mask: u16, raw: u8) -> bool
     !has_bit(mask, raw)
 }
 
-// What the rule at a place says of a frame, or the lack of one.
-fn mms_rule_check(found: Found, rules: MmsRules, strict: bool, write: bool) -> RuleCheck
-    ensures { λ r. ⌜ r ≡ mmsRule strict rules write found ⌝ }
+// What the rule that applies says of a frame, or the lack of one.
+fn mms_applying(m: &[u64; 1218], found: Found, write: bool) -> RuleCheck
+    ensures { λ r. ⌜ r ≡ mmsApplying (strictMode (monitorOf (now (m .entry)))) (monitorOf (now (m .entry)) .«mms_rules») write found ⌝ }
 {
     match found {
         Found::At(i) => {
-            if i >= 16 {
-                return RuleCheck::Rate(0);
-            }
-            if rules.read_only[i] && write {
+            if rule_read_only_on(m, i) && write {
                 return RuleCheck::Refused(AlertSeverity::High, AlertCode::WriteProtection);
             }
-            RuleCheck::Rate(rules.max_rate_per_sec[i])
+            RuleCheck::Rate(rule_rate_on(m, i))
         }
         Found::Nothing => {
-            if strict && rules.count > 0 {
+            let count = mms_rule_count_on(m);
+            if flag_on(m, STRICT_MODE) && count > 0 {
                 return RuleCheck::Refused(AlertSeverity::Medium, AlertCode::NoMatchingRule);
             }
             RuleCheck::Rate(0)
@@ -72,18 +79,18 @@ fn mms_rule_check(found: Found, rules: MmsRules, strict: bool, write: bool) -> R
     }
 }
 
-// The mask, read-only mode, and the first rule that applies. Masks use the raw number.
-fn mms_mask(settings: Settings, rules: MmsRules, raw: u8, write: bool) -> RuleCheck
-    ensures { λ r. ⌜ r ≡ mmsMask settings rules raw write ⌝ }
+// 4 to 6 and 8: the mask, read-only mode, and the first rule that applies. Masks use the raw number.
+fn mms_rule(m: &[u64; 1218], raw: u8, write: bool) -> RuleCheck
+    ensures { λ r. ⌜ r ≡ mmsRule (monitorOf (now (m .entry))) raw write ⌝ }
 {
-    if masked(settings.mms_service_mask, raw) {
+    if masked(setting_on(m, MMS_SERVICE_MASK), raw) {
         return RuleCheck::Refused(AlertSeverity::Medium, AlertCode::UnknownFunctionCode);
     }
-    if settings.mms_read_only && write {
+    if flag_on(m, MMS_READ_ONLY) && write {
         return RuleCheck::Refused(AlertSeverity::High, AlertCode::WriteProtection);
     }
-    let found = first_rule(&rules.service_mask, rules.count, raw);
-    mms_rule_check(found, rules, settings.strict_mode, write)
+    let found = first_rule_on(m, raw);
+    mms_applying(m, found, write)
 }
 
 // A full reservation table gives an alert that does not refuse.
@@ -97,300 +104,103 @@ fn full_alert(taken: bool) -> CheckAlert
     }
 }
 
-// CancelControl and Conclude release the client's reservation of the name, with an empty name all of the client's.
-fn mms_release<'a>(
-    f: MmsFrame,
-    cb_refs: &'a [u8; 1024],
-    cb_lens: &'a [u8; 16],
-    cb_kinds: &'a [bool; 16],
-    cb_owners: &'a [u32; 16],
-    cb_active: &'a mut [bool; 16],
-)
-    ensures { λ _.
-        ⌜ ((bound : List Bool) (addresses : List ℕ) → cbTableOf (now («cb_refs» .entry)) (now («cb_lens» .entry)) (now («cb_kinds» .entry)) (now («cb_owners» .entry)) bound addresses (now («cb_active» .exit)) ≡ released (cbTableOf (now («cb_refs» .entry)) (now («cb_lens» .entry)) (now («cb_kinds» .entry)) (now («cb_owners» .entry)) bound addresses (now («cb_active» .entry))) (domainName f) (f .«control_block_is_goose») (f .«client_id»)) ⌝ }
-{
-    let len = valid_len(f.domain_len);
-    let name = padded(&f.domain, len);
-    release_cb_in(
-        cb_refs,
-        cb_lens,
-        cb_kinds,
-        cb_owners,
-        cb_active,
-        &name,
-        len,
-        f.client_id,
-        f.control_block_is_goose,
-    );
-}
-
 // Whether a service of this number gives up reservations: CancelControl 12 and Conclude 10.
-fn releases(number: u8) -> bool
-    ensures { λ r. ⌜ r ≡ (eqb number 12 || eqb number 10) ⌝ }
+fn releases(service: u8) -> bool
+    ensures { λ r. ⌜ r ≡ releases service ⌝ }
 {
-    if number == 12 {
+    if service == 12 {
         return true;
     }
-    number == 10
+    service == 10
 }
 
-// What the rules or the bucket refuse.
-fn mms_refusal(rule: RuleCheck, allowed: bool) -> CheckAlert
-    ensures { λ r. ⌜ findingsOf r ≡ mmsFindings rule allowed ⌝ }
+// The control block that a control action names.
+fn control_key(domain: &[u8; 64], n: MmsNumbers) -> [u64; 10]
+    ensures { λ r. ⌜ r ≡ controlKey (record { domain = now (domain .entry); numbers = n }) ⌝ }
 {
-    match rule {
-        RuleCheck::Refused(severity, code) => CheckAlert::Refusal(severity, code),
-        RuleCheck::Rate(_) => {
-            if allowed {
-                return CheckAlert::Nothing;
-            }
-            CheckAlert::Refusal(AlertSeverity::Medium, AlertCode::RateExceeded)
-        }
-    }
+    reservation_key(n.control_block_is_goose, *domain, n.domain_len)
 }
 
-// The control action of a frame, if the checking reaches it, by the service and not its raw number: SelectControl 11 reserves the
-// control block that it names. Answers whether there was a place, true where nothing is reserved.
-fn mms_control_if<'a>(
-    reached: bool,
-    f: MmsFrame,
-    cb_refs: &'a mut [u8; 1024],
-    cb_lens: &'a mut [u8; 16],
-    cb_kinds: &'a mut [bool; 16],
-    cb_owners: &'a mut [u32; 16],
-    cb_bound: &'a mut [bool; 16],
-    cb_macs: &'a mut [u64; 16],
-    cb_active: &'a mut [bool; 16],
-) -> bool
-    ensures { λ r.
-        ⌜ record { table = cbTableOf (now («cb_refs» .exit)) (now («cb_lens» .exit)) (now («cb_kinds» .exit)) (now («cb_owners» .exit)) (now («cb_bound» .exit)) (now («cb_macs» .exit)) (now («cb_active» .exit)); taken = r } ≡ cbControlledIf reached (cbTableOf (now («cb_refs» .entry)) (now («cb_lens» .entry)) (now («cb_kinds» .entry)) (now («cb_owners» .entry)) (now («cb_bound» .entry)) (now («cb_macs» .entry)) (now («cb_active» .entry))) f ⌝ }
+// The control action of a frame, by the service and not its raw number: SelectControl 11 reserves the control block that it names.
+fn mms_control(m: &mut [u64; 1218], domain: &[u8; 64], n: MmsNumbers) -> CheckAlerts
+    ensures { λ r. ⌜ record { monitor = monitorOf (now (m .exit)); answer = alertsOf r }
+        ≡ mmsControl (record { domain = now (domain .entry); numbers = n }) (monitorOf (now (m .entry))) ⌝ }
 {
-    if !reached {
-        return true;
+    if n.service == 11 {
+        let key = control_key(domain, n);
+        let taken = reserve_cb_on(m, &key, n.client_id);
+        return one_alert(full_alert(taken));
     }
-    let service = f.service_type;
-    let number = service.number();
-    if number == 11 {
-        let len = valid_len(f.domain_len);
-        let name = padded(&f.domain, len);
-        return reserve_cb_in(
-            cb_refs,
-            cb_lens,
-            cb_kinds,
-            cb_owners,
-            cb_bound,
-            cb_macs,
-            cb_active,
-            &name,
-            len,
-            f.client_id,
-            f.control_block_is_goose,
-        );
+    if releases(n.service) {
+        let key = control_key(domain, n);
+        release_cb_on(m, &key, n.client_id);
+        return one_alert(CheckAlert::Nothing);
     }
-    if releases(number) {
-        mms_release(f, cb_refs, cb_lens, cb_kinds, cb_owners, cb_active);
-        return true;
-    }
-    true
+    one_alert(CheckAlert::Nothing)
 }
 
-// The checks of an MMS frame in the columns of a monitor: the rules, the bucket of a rule with a rate, the control action. They follow
-// each other without a branch: one that is not reached changes nothing.
-pub fn mms_checks<'a>(
-    f: MmsFrame,
-    settings: Settings,
-    rules: MmsRules,
-    keys: &'a mut [u64; 16],
-    tokens: &'a mut [u16; 16],
-    capacity: &'a mut [u16; 16],
-    last_refill_us: &'a mut [u64; 16],
-    active: &'a mut [bool; 16],
-    used: &'a mut [u32; 16],
-    tick: &'a mut u32,
-    cb_refs: &'a mut [u8; 1024],
-    cb_lens: &'a mut [u8; 16],
-    cb_kinds: &'a mut [bool; 16],
-    cb_owners: &'a mut [u32; 16],
-    cb_bound: &'a mut [bool; 16],
-    cb_macs: &'a mut [u64; 16],
-    cb_active: &'a mut [bool; 16],
-) -> CheckAlerts
-    ensures { λ r.
-        ⌜ ((m : Iec61850Monitor) → ended (withMmsParts m settings rules (bucketTableOf (now (keys .exit)) (now (tokens .exit)) (now (capacity .exit)) (now («last_refill_us» .exit)) (now (active .exit)) (now (used .exit)) (now (tick .exit))) (cbTableOf (now («cb_refs» .exit)) (now («cb_lens» .exit)) (now («cb_kinds» .exit)) (now («cb_owners» .exit)) (now («cb_bound» .exit)) (now («cb_macs» .exit)) (now («cb_active» .exit)))) (alertsOf r) ≡ mmsChecks (withMmsParts m settings rules (bucketTableOf (now (keys .entry)) (now (tokens .entry)) (now (capacity .entry)) (now («last_refill_us» .entry)) (now (active .entry)) (now (used .entry)) (now (tick .entry))) (cbTableOf (now («cb_refs» .entry)) (now («cb_lens» .entry)) (now («cb_kinds» .entry)) (now («cb_owners» .entry)) (now («cb_bound» .entry)) (now («cb_macs» .entry)) (now («cb_active» .entry)))) f) ⌝ }
+// 7: the bucket of a rule with a rate, then the control action.
+fn mms_rate(m: &mut [u64; 1218], domain: &[u8; 64], n: MmsNumbers, rate: u16) -> CheckAlerts
+    ensures { λ r. ⌜ record { monitor = monitorOf (now (m .exit)); answer = alertsOf r }
+        ≡ mmsRate (record { domain = now (domain .entry); numbers = n }) rate (monitorOf (now (m .entry))) ⌝ }
 {
-    let service = f.service_type;
-    let rule = mms_mask(settings, rules, f.raw_service_type, service.is_write());
-    let rate = rule.rate_given();
-    let allowed = rate_check_if(
-        keys,
-        tokens,
-        capacity,
-        last_refill_us,
-        active,
-        used,
-        tick,
-        f.invoke_id,
-        rate,
-        f.timestamp_us,
-    );
-    let permitted = rule.permits();
-    let reached = goes_on(permitted, !allowed);
-    let taken = mms_control_if(
-        reached,
-        f,
-        cb_refs,
-        cb_lens,
-        cb_kinds,
-        cb_owners,
-        cb_bound,
-        cb_macs,
-        cb_active,
-    );
-    CheckAlerts {
-        first: mms_refusal(rule, allowed),
-        second: full_alert(taken),
-        third: CheckAlert::Nothing,
+    if rate == 0 {
+        return mms_control(m, domain, n);
+    }
+    if rate_check_on(m, n.invoke_id, rate, n.timestamp_us) {
+        return mms_control(m, domain, n);
+    }
+    refused(AlertSeverity::Medium, AlertCode::RateExceeded)
+}
+
+// The checks of an MMS frame.
+pub fn mms_checks_on(m: &mut [u64; 1218], domain: &[u8; 64], n: MmsNumbers) -> CheckAlerts
+    ensures { λ r. ⌜ record { monitor = monitorOf (now (m .exit)); answer = alertsOf r }
+        ≡ mmsChecks (monitorOf (now (m .entry))) (record { domain = now (domain .entry); numbers = n }) ⌝ }
+{
+    match mms_rule(m, n.raw_service_type, n.write) {
+        RuleCheck::Refused(severity, code) => refused(severity, code),
+        RuleCheck::Rate(rate) => mms_rate(m, domain, n, rate),
     }
 }
 
-// The inspection of an MMS frame in the columns of a monitor.
-pub fn inspect_mms_in<'a>(
-    frame: MmsFrame,
-    settings: Settings,
-    rules: MmsRules,
-    keys: &'a mut [u64; 16],
-    tokens: &'a mut [u16; 16],
-    capacity: &'a mut [u16; 16],
-    last_refill_us: &'a mut [u64; 16],
-    active: &'a mut [bool; 16],
-    used: &'a mut [u32; 16],
-    tick: &'a mut u32,
-    cb_refs: &'a mut [u8; 1024],
-    cb_lens: &'a mut [u8; 16],
-    cb_kinds: &'a mut [bool; 16],
-    cb_owners: &'a mut [u32; 16],
-    cb_bound: &'a mut [bool; 16],
-    cb_macs: &'a mut [u64; 16],
-    cb_active: &'a mut [bool; 16],
-    total: &'a mut u64,
-    next_alert_id: &'a mut u64,
-    total_alerts: &'a mut u64,
-) -> InspectResult
-    ensures { λ r.
-        ⌜ ((m : Iec61850Monitor) → record { monitor = (mmsMonitorOf m settings rules (bucketTableOf (now (keys .exit)) (now (tokens .exit)) (now (capacity .exit)) (now («last_refill_us» .exit)) (now (active .exit)) (now (used .exit)) (now (tick .exit))) (cbTableOf (now («cb_refs» .exit)) (now («cb_lens» .exit)) (now («cb_kinds» .exit)) (now («cb_owners» .exit)) (now («cb_bound» .exit)) (now («cb_macs» .exit)) (now («cb_active» .exit))) (now (total .exit)) (now («next_alert_id» .exit)) (now («total_alerts» .exit))); result = r } ≡ inspectMms (mmsMonitorOf m settings rules (bucketTableOf (now (keys .entry)) (now (tokens .entry)) (now (capacity .entry)) (now («last_refill_us» .entry)) (now (active .entry)) (now (used .entry)) (now (tick .entry))) (cbTableOf (now («cb_refs» .entry)) (now («cb_lens» .entry)) (now («cb_kinds» .entry)) (now («cb_owners» .entry)) (now («cb_bound» .entry)) (now («cb_macs» .entry)) (now («cb_active» .entry))) (now (total .entry)) (now («next_alert_id» .entry)) (now («total_alerts» .entry))) frame) ⌝ }
+// Counts and checks an MMS frame.
+fn check_mms_on(m: &mut [u64; 1218], frame: MmsFrame) -> CheckAlerts
+    ensures { λ r. ⌜ record { monitor = monitorOf (now (m .exit)); answer = alertsOf r } ≡ checkedMms (monitorOf (now (m .entry))) frame ⌝ }
 {
-    let alerts = mms_checks(
-        frame,
-        settings,
-        rules,
-        keys,
-        tokens,
-        capacity,
-        last_refill_us,
-        active,
-        used,
-        tick,
-        cb_refs,
-        cb_lens,
-        cb_kinds,
-        cb_owners,
-        cb_bound,
-        cb_macs,
-        cb_active,
-    );
-    *total = saturating_increment(*total);
-    push_alerts_in(
+    let service = frame.service_type;
+    let n = MmsNumbers {
+        service: service.number(),
+        write: service.is_write(),
+        raw_service_type: frame.raw_service_type,
+        domain_len: frame.domain_len,
+        invoke_id: frame.invoke_id,
+        timestamp_us: frame.timestamp_us,
+        client_id: frame.client_id,
+        control_block_is_goose: frame.control_block_is_goose,
+    };
+    count_frame_on(m, MMS_TOTAL_INSPECTED);
+    mms_checks_on(m, &frame.domain, n)
+}
+
+// Inspects an MMS frame.
+pub fn inspect_mms_on(m: &mut [u64; 1218], frame: MmsFrame) -> InspectResult
+    ensures { λ r. ⌜ record { monitor = monitorOf (now (m .exit)); answer = r } ≡ inspectMms (monitorOf (now (m .entry))) frame ⌝ }
+{
+    let alerts = check_mms_on(m, frame);
+    report_on(
+        m,
         alerts,
         SOURCE_IEC61850_MMS,
         frame.invoke_id,
         frame.timestamp_us,
-        next_alert_id,
-        total_alerts,
     )
 }
 
-impl Iec61850Monitor {
-    // The monitor after an MMS frame, and the result.
-    pub fn inspect_mms(self, frame: MmsFrame) -> Inspected
-        ensures { λ r. ⌜ r ≡ inspectMms self frame ⌝ }
-    {
-        let settings = self.settings;
-        let rules = self.rules.mms;
-        let mut keys = self.rate_buckets.key;
-        let mut tokens = self.rate_buckets.tokens;
-        let mut capacity = self.rate_buckets.capacity;
-        let mut last_refill_us = self.rate_buckets.last_refill_us;
-        let mut active = self.rate_buckets.ageing.active;
-        let mut used = self.rate_buckets.ageing.last_used;
-        let mut tick = self.rate_buckets.ageing.tick;
-        let mut cb_refs = self.cb_reservations.cb_ref.octets;
-        let mut cb_lens = self.cb_reservations.cb_ref.lens;
-        let mut cb_kinds = self.cb_reservations.is_goose;
-        let mut cb_owners = self.cb_reservations.owner_client_id;
-        let mut cb_bound = self.cb_reservations.bound;
-        let mut cb_macs = self.cb_reservations.bound_src_mac;
-        let mut cb_active = self.cb_reservations.active;
-        let mut total = self.totals.mms_total_inspected;
-        let mut next_alert_id = self.totals.alerts.next_alert_id;
-        let mut total_alerts = self.totals.alerts.total_alerts;
-        let result = inspect_mms_in(
-            frame,
-            settings,
-            rules,
-            &mut keys,
-            &mut tokens,
-            &mut capacity,
-            &mut last_refill_us,
-            &mut active,
-            &mut used,
-            &mut tick,
-            &mut cb_refs,
-            &mut cb_lens,
-            &mut cb_kinds,
-            &mut cb_owners,
-            &mut cb_bound,
-            &mut cb_macs,
-            &mut cb_active,
-            &mut total,
-            &mut next_alert_id,
-            &mut total_alerts,
-        );
-        let mut totals = self.totals;
-        let counters = AlertCounters {
-            next_alert_id: next_alert_id,
-            total_alerts: total_alerts,
-        };
-        totals.mms_total_inspected = total;
-        totals.alerts = counters;
-        let buckets = RateBuckets {
-            key: keys,
-            tokens: tokens,
-            capacity: capacity,
-            last_refill_us: last_refill_us,
-            ageing: Ageing {
-                active: active,
-                last_used: used,
-                tick: tick,
-            },
-        };
-        let reservations = CbReservations {
-            cb_ref: Names {
-                octets: cb_refs,
-                lens: cb_lens,
-            },
-            is_goose: cb_kinds,
-            owner_client_id: cb_owners,
-            bound: cb_bound,
-            bound_src_mac: cb_macs,
-            active: cb_active,
-        };
-        let mut out = self;
-        out.rate_buckets = buckets;
-        out.cb_reservations = reservations;
-        out.totals = totals;
-        Inspected {
-            monitor: out,
-            result: result,
-        }
-    }
+// The same, and answers the verdict.
+pub fn mms_verdict_on(m: &mut [u64; 1218], frame: MmsFrame) -> [u8; 8]
+    ensures { λ r. ⌜ record { monitor = monitorOf (now (m .exit)); answer = r } ≡ withVerdict (inspectMms (monitorOf (now (m .entry))) frame) ⌝ }
+{
+    let alerts = check_mms_on(m, frame);
+    verdict_on(m, alerts)
 }

@@ -1,79 +1,70 @@
 // The inspection of a sampled-values frame, carried over from industrial/iec61850-monitor/src/lib.rs of craton-shield
-// a31d888527 (Apache-2.0) and changed: the checks in a row, over lent columns; the alerts added at the end.
+// a31d888527 (Apache-2.0) and changed: a chain of stages on the monitor's words, each of which ends the checking or calls the next; the alerts
+// added at the end.
 ghost use mathlib.Core.Path.{_≡_};
 ghost use mathlib.Core.Bool.{cond};
-ghost use mathlib.Core.List.{[]};
-ghost use Rattle.inspection.specs.InspectSv.{rateFindings, countFindings, svRuleCheck, svBinding, inspectSv, inspectRawSv, withSvParts, rateReached, svMonitorOf};
-ghost use Rattle.inspection.specs.Report.{ended, findingsOf, alertsOf};
-ghost use Rattle.inspection.specs.Reservation.{cbTableOf};
-ghost use Rattle.inspection.specs.SvPublisher.{lastFitting};
-ghost use Rattle.inspection.specs.SvSeq.{svTableOf};
-ghost use Rattle.inspection.specs.TimeField.{clockTableOf};
+ghost use mathlib.Core.List.{[], _++_};
+ghost use Rattle.monitor.specs.Monitor.{monitorOf};
+ghost use Rattle.inspection.specs.InspectSv.{rateFindings, countFindings, svRule, svTimeField, svReservation, svBinding};
+ghost use Rattle.inspection.specs.InspectSv.{checkedSv, inspectSv, inspectRawSv};
+ghost use Rattle.inspection.specs.Report.{clockFindings, findingsOf, alertsOf, withVerdict};
 use crate::address::address_of;
-use crate::monitor::Iec61850Monitor;
-use crate::monitor::Inspected;
-use crate::monitor::RawInspected;
 use crate::report::CheckAlert;
 use crate::report::CheckAlerts;
-use crate::report::first_alert;
-use crate::report::goes_on;
-use crate::report::push_alerts_in;
-use crate::reservation::hijack_check_if;
-use crate::rules::RuleCheck;
-use crate::settings::Settings;
-use crate::sv_publisher::PublisherMatch;
-use crate::sv_publisher::sv_publisher;
-use crate::sv_seq::SvSeqOutcome;
-use crate::sv_seq::SvSeqTable;
-use crate::sv_seq::check_sv_seq_in;
-use crate::time_field::TimeTrackers;
-use crate::time_field::clock_check_if;
-use records::ageing::Ageing;
+use crate::report::RuleCheck;
+use crate::report::clock_alert;
+use crate::report::refused;
+use crate::report::report_on;
+use crate::report::verdict_on;
+use checks::keys::plain_key;
+use checks::keys::reservation_key;
+use checks::sv_publisher::PublisherMatch;
+use checks::sv_seq::SvSeqOutcome;
+use monitor::parts::check_cb_on;
+use monitor::parts::check_sv_seq_on;
+use monitor::parts::check_time_field_on;
+use monitor::parts::publisher_rate_on;
+use monitor::parts::sv_publisher_count_on;
+use monitor::parts::sv_publisher_on;
+use monitor::settings::STRICT_MODE;
+use monitor::settings::SV_MAX_SMP_CNT_GAP;
+use monitor::settings::flag_on;
+use monitor::settings::setting_on;
+use monitor::settings::time_max_forward_jump_s_on;
+use monitor::totals::SV_TOTAL_INSPECTED;
+use monitor::totals::count_frame_on;
 use records::alert::AlertCode;
 use records::alert::AlertSeverity;
 use records::alert::SOURCE_IEC61850_SV;
-use records::counter::saturating_increment;
 use records::frame::SvFrame;
-use records::name::Names;
-use records::name::padded;
-use records::name::valid_len;
-use records::result::AlertCounters;
 use records::result::InspectResult;
 use wire::sv::Parsed;
 use wire::sv::parse_sv;
 
-// What the publishers say of a frame: refused, or the rate of the last rule that fits.
-fn sv_rule_check(found: PublisherMatch, strict: bool, count: u8, rates: [u16; 16]) -> RuleCheck
-    ensures { λ r. ⌜ r ≡ svRuleCheck strict count rates found ⌝ }
-{
-    match found {
-        PublisherMatch::WrongAddress => {
-            RuleCheck::Refused(AlertSeverity::High, AlertCode::IedMismatch)
-        }
-        PublisherMatch::NotRegistered => {
-            if strict && count > 0 {
-                return RuleCheck::Refused(AlertSeverity::Medium, AlertCode::PolicyViolation);
-            }
-            RuleCheck::Rate(0)
-        }
-        PublisherMatch::Fits(i) => {
-            if i >= 16 {
-                return RuleCheck::Rate(0);
-            }
-            RuleCheck::Rate(rates[i])
-        }
-    }
+// What the checks read of a frame beside its names.
+pub struct SvNumbers {
+    pub address: u64,
+    pub seconds: u32,
+    pub fraction: u32,
+    pub smp_cnt: u16,
+    pub smp_rate: u16,
+}
+
+// The result of a raw frame's inspection, with the error where it could not be read.
+pub struct RawSv {
+    pub answer: Parsed,
+    pub result: InspectResult,
 }
 
 // A replay refuses, and so does a gap above a nonzero limit; a suspicious count does not.
-pub fn count_alert(outcome: SvSeqOutcome, limit: u16) -> CheckAlert
+fn count_alert(outcome: SvSeqOutcome, limit: u64) -> CheckAlert
     ensures { λ r. ⌜ findingsOf r ≡ countFindings limit [] outcome ⌝ }
 {
     match outcome {
         SvSeqOutcome::FirstSeen => CheckAlert::Nothing,
         SvSeqOutcome::Replay => CheckAlert::Refusal(AlertSeverity::High, AlertCode::SvReplay),
         SvSeqOutcome::ForwardGap(gap) => {
-            if limit > 0 && gap > limit {
+            if limit > 0 && (gap as u64) > limit {
                 return CheckAlert::Refusal(AlertSeverity::Medium, AlertCode::SvRateAnomaly);
             }
             CheckAlert::Nothing
@@ -86,7 +77,7 @@ pub fn count_alert(outcome: SvSeqOutcome, limit: u16) -> CheckAlert
 }
 
 // The rate is not compared after a replay, nor where the frame or the rule has none.
-pub fn rate_alert(replay: bool, frame_rate: u16, rate: u16) -> CheckAlert
+fn rate_alert(replay: bool, frame_rate: u16, rate: u16) -> CheckAlert
     ensures { λ r. ⌜ findingsOf r ≡ cond replay [] (rateFindings «frame_rate» rate) ⌝ }
 {
     if replay {
@@ -104,336 +95,151 @@ pub fn rate_alert(replay: bool, frame_rate: u16, rate: u16) -> CheckAlert
     CheckAlert::Refusal(AlertSeverity::Medium, AlertCode::SvRateAnomaly)
 }
 
-// What the publishers say of a frame. Where there are none, none is searched for.
-pub fn sv_rule<'a>(
-    rule_macs: &'a [u64; 16],
-    rule_svids: &'a [u8; 1024],
-    rule_lens: &'a [u8; 16],
-    rule_rates: [u16; 16],
-    rule_count: u8,
-    strict: bool,
-    src_mac: u64,
-    svid: &'a [u8; 64],
-    svid_len: u8,
-) -> RuleCheck
-    ensures { λ r. ⌜ r ≡ svRuleCheck strict «rule_count» «rule_rates» (lastFitting (now («rule_macs» .entry)) (now («rule_svids» .entry)) (now («rule_lens» .entry)) «rule_count» «src_mac» (now (svid .entry)) «svid_len») ⌝ }
+// The alerts of the clock, the count and the rate.
+fn sv_alerts(
+    clock: bool,
+    outcome: SvSeqOutcome,
+    limit: u64,
+    frame_rate: u16,
+    rate: u16,
+) -> CheckAlerts
+    ensures { λ r. ⌜ alertsOf r ≡ clockFindings clock ++ countFindings limit (rateFindings «frame_rate» rate) outcome ⌝ }
 {
-    if rule_count == 0 {
+    CheckAlerts {
+        first: clock_alert(clock),
+        second: count_alert(outcome, limit),
+        third: rate_alert(outcome.is_replay(), frame_rate, rate),
+    }
+}
+
+// 17 to 20: the clock; the count, also after a clock alert; the rate.
+fn sv_time_field(m: &mut [u64; 1218], svid: &[u64; 10], n: SvNumbers, rate: u16) -> CheckAlerts
+    ensures { λ r. ⌜ record { monitor = monitorOf (now (m .exit)); answer = alertsOf r }
+        ≡ svTimeField (now (svid .entry)) n rate (monitorOf (now (m .entry))) ⌝ }
+{
+    let limit = time_max_forward_jump_s_on(m);
+    let clock = check_time_field_on(m, limit, n.address, n.seconds, n.fraction);
+    let outcome = check_sv_seq_on(m, svid, n.smp_cnt);
+    let max_gap = setting_on(m, SV_MAX_SMP_CNT_GAP);
+    sv_alerts(clock, outcome, max_gap, n.smp_rate, rate)
+}
+
+// 16: the data set's reservation.
+fn sv_reservation(
+    m: &mut [u64; 1218],
+    svid: &[u64; 10],
+    dataset: &[u64; 10],
+    n: SvNumbers,
+    rate: u16,
+) -> CheckAlerts
+    ensures { λ r. ⌜ record { monitor = monitorOf (now (m .exit)); answer = alertsOf r }
+        ≡ svReservation (record { svid = now (svid .entry); dataset = now (dataset .entry); numbers = n }) rate (monitorOf (now (m .entry))) ⌝ }
+{
+    if check_cb_on(m, dataset, n.address) {
+        return refused(AlertSeverity::High, AlertCode::CbHijack);
+    }
+    sv_time_field(m, svid, n, rate)
+}
+
+// 14, 15: what the publishers say of a frame. Where there are none, none is searched for.
+fn sv_rule(m: &[u64; 1218], address: u64, svid: &[u64; 10]) -> RuleCheck
+    ensures { λ r. ⌜ r ≡ svRule (monitorOf (now (m .entry))) address (now (svid .entry)) ⌝ }
+{
+    let count = sv_publisher_count_on(m);
+    if count == 0 {
         return RuleCheck::Rate(0);
     }
-    let found = sv_publisher(
-        rule_macs,
-        rule_svids,
-        rule_lens,
-        rule_count,
-        src_mac,
-        svid,
-        svid_len,
-    );
-    sv_rule_check(found, strict, rule_count, rule_rates)
-}
-
-// The rate that a frame's is compared with: that of its rule, none where the checking ended before.
-pub fn rate_reached(rule: RuleCheck, hijack: bool) -> u16
-    ensures { λ r. ⌜ r ≡ rateReached rule hijack ⌝ }
-{
-    if hijack {
-        return 0;
+    match sv_publisher_on(m, address, svid) {
+        PublisherMatch::WrongAddress => {
+            RuleCheck::Refused(AlertSeverity::High, AlertCode::IedMismatch)
+        }
+        PublisherMatch::NotRegistered => {
+            if flag_on(m, STRICT_MODE) {
+                return RuleCheck::Refused(AlertSeverity::Medium, AlertCode::PolicyViolation);
+            }
+            RuleCheck::Rate(0)
+        }
+        PublisherMatch::Fits(i) => RuleCheck::Rate(publisher_rate_on(m, i)),
     }
-    rule.rate_given()
 }
 
-// The checks of an SV frame in the columns of a monitor. They follow each other without a branch: one that is not reached changes
-// nothing.
-pub fn sv_checks<'a>(
-    frame: SvFrame,
-    settings: Settings,
-    rule_macs: &'a [u64; 16],
-    rule_svids: &'a [u8; 1024],
-    rule_lens: &'a [u8; 16],
-    rule_rates: [u16; 16],
-    rule_count: u8,
-    cb_refs: &'a [u8; 1024],
-    cb_lens: &'a [u8; 16],
-    cb_kinds: &'a [bool; 16],
-    cb_active: &'a [bool; 16],
-    cb_bound: &'a mut [bool; 16],
-    cb_macs: &'a mut [u64; 16],
-    clock_macs: &'a mut [u64; 16],
-    clock_seconds: &'a mut [u32; 16],
-    clock_fractions: &'a mut [u32; 16],
-    clock_active: &'a mut [bool; 16],
-    clock_used: &'a mut [u32; 16],
-    clock_tick: &'a mut u32,
-    svids: &'a mut [u8; 1024],
-    svid_lens: &'a mut [u8; 16],
-    counts: &'a mut [u16; 16],
-    active: &'a mut [bool; 16],
-    used: &'a mut [u32; 16],
-    tick: &'a mut u32,
+// The checks of an SV frame, by the keys of its svID and data set.
+pub fn sv_checks_on(
+    m: &mut [u64; 1218],
+    svid: &[u64; 10],
+    dataset: &[u64; 10],
+    n: SvNumbers,
 ) -> CheckAlerts
-    ensures { λ r.
-        ⌜ ((m : Iec61850Monitor) → ended (withSvParts m settings (record { «src_mac» = now («rule_macs» .entry); svid = record { octets = now («rule_svids» .entry); lens = now («rule_lens» .entry) }; «expected_smp_rate» = «rule_rates»; count = «rule_count» }) (cbTableOf (now («cb_refs» .entry)) (now («cb_lens» .entry)) (now («cb_kinds» .entry)) (m .«cb_reservations» .«owner_client_id») (now («cb_bound» .exit)) (now («cb_macs» .exit)) (now («cb_active» .entry))) (clockTableOf (now («clock_macs» .exit)) (now («clock_seconds» .exit)) (now («clock_fractions» .exit)) (now («clock_active» .exit)) (now («clock_used» .exit)) (now («clock_tick» .exit))) (svTableOf (now (svids .exit)) (now («svid_lens» .exit)) (now (counts .exit)) (now (active .exit)) (now (used .exit)) (now (tick .exit)))) (alertsOf r) ≡ svBinding (withSvParts m settings (record { «src_mac» = now («rule_macs» .entry); svid = record { octets = now («rule_svids» .entry); lens = now («rule_lens» .entry) }; «expected_smp_rate» = «rule_rates»; count = «rule_count» }) (cbTableOf (now («cb_refs» .entry)) (now («cb_lens» .entry)) (now («cb_kinds» .entry)) (m .«cb_reservations» .«owner_client_id») (now («cb_bound» .entry)) (now («cb_macs» .entry)) (now («cb_active» .entry))) (clockTableOf (now («clock_macs» .entry)) (now («clock_seconds» .entry)) (now («clock_fractions» .entry)) (now («clock_active» .entry)) (now («clock_used» .entry)) (now («clock_tick» .entry))) (svTableOf (now (svids .entry)) (now («svid_lens» .entry)) (now (counts .entry)) (now (active .entry)) (now (used .entry)) (now (tick .entry)))) frame) ⌝ }
+    ensures { λ r. ⌜ record { monitor = monitorOf (now (m .exit)); answer = alertsOf r }
+        ≡ svBinding (monitorOf (now (m .entry))) (record { svid = now (svid .entry); dataset = now (dataset .entry); numbers = n }) ⌝ }
 {
-    let mac = frame.src_mac;
-    let src_mac = address_of(mac);
-    let svid_len = valid_len(frame.svid_len);
-    let octets = frame.svid;
-    let svid = padded(&octets, svid_len);
-    let rule = sv_rule(
-        rule_macs,
-        rule_svids,
-        rule_lens,
-        rule_rates,
-        rule_count,
-        settings.strict_mode,
-        src_mac,
-        &svid,
-        svid_len,
-    );
-    let permitted = rule.permits();
-    let dataset_ref = frame.dataset_ref;
-    let hijack = hijack_check_if(
-        permitted,
-        cb_refs,
-        cb_lens,
-        cb_kinds,
-        cb_active,
-        cb_bound,
-        cb_macs,
-        dataset_ref,
-        frame.dataset_ref_len,
-        false,
-        src_mac,
-    );
-    let reached = goes_on(permitted, hijack);
-    let clock = clock_check_if(
-        reached,
-        clock_macs,
-        clock_seconds,
-        clock_fractions,
-        clock_active,
-        clock_used,
-        clock_tick,
-        src_mac,
-        frame.t_seconds_since_epoch,
-        frame.t_fraction_of_second,
-        settings.time_max_forward_jump_s,
-    );
-    let outcome = check_sv_seq_in(
-        reached,
-        svids,
-        svid_lens,
-        counts,
-        active,
-        used,
-        tick,
-        &svid,
-        svid_len,
-        frame.smp_cnt,
-    );
-    CheckAlerts {
-        first: first_alert(rule, hijack, clock),
-        second: count_alert(outcome, settings.sv_max_smp_cnt_gap),
-        third: rate_alert(
-            outcome.is_replay(),
-            frame.smp_rate,
-            rate_reached(rule, hijack),
-        ),
+    match sv_rule(m, n.address, svid) {
+        RuleCheck::Refused(severity, code) => refused(severity, code),
+        RuleCheck::Rate(rate) => sv_reservation(m, svid, dataset, n, rate),
     }
 }
 
-// The inspection of an SV frame in the columns of a monitor.
-pub fn inspect_sv_in<'a>(
-    frame: SvFrame,
-    settings: Settings,
-    rule_macs: &'a [u64; 16],
-    rule_svids: &'a [u8; 1024],
-    rule_lens: &'a [u8; 16],
-    rule_rates: [u16; 16],
-    rule_count: u8,
-    cb_refs: &'a [u8; 1024],
-    cb_lens: &'a [u8; 16],
-    cb_kinds: &'a [bool; 16],
-    cb_active: &'a [bool; 16],
-    cb_bound: &'a mut [bool; 16],
-    cb_macs: &'a mut [u64; 16],
-    clock_macs: &'a mut [u64; 16],
-    clock_seconds: &'a mut [u32; 16],
-    clock_fractions: &'a mut [u32; 16],
-    clock_active: &'a mut [bool; 16],
-    clock_used: &'a mut [u32; 16],
-    clock_tick: &'a mut u32,
-    svids: &'a mut [u8; 1024],
-    svid_lens: &'a mut [u8; 16],
-    counts: &'a mut [u16; 16],
-    active: &'a mut [bool; 16],
-    used: &'a mut [u32; 16],
-    tick: &'a mut u32,
-    total: &'a mut u64,
-    next_alert_id: &'a mut u64,
-    total_alerts: &'a mut u64,
-) -> InspectResult
-    ensures { λ r.
-        ⌜ ((m : Iec61850Monitor) → record { monitor = (svMonitorOf m settings (record { «src_mac» = now («rule_macs» .entry); svid = record { octets = now («rule_svids» .entry); lens = now («rule_lens» .entry) }; «expected_smp_rate» = «rule_rates»; count = «rule_count» }) (cbTableOf (now («cb_refs» .entry)) (now («cb_lens» .entry)) (now («cb_kinds» .entry)) (m .«cb_reservations» .«owner_client_id») (now («cb_bound» .exit)) (now («cb_macs» .exit)) (now («cb_active» .entry))) (clockTableOf (now («clock_macs» .exit)) (now («clock_seconds» .exit)) (now («clock_fractions» .exit)) (now («clock_active» .exit)) (now («clock_used» .exit)) (now («clock_tick» .exit))) (svTableOf (now (svids .exit)) (now («svid_lens» .exit)) (now (counts .exit)) (now (active .exit)) (now (used .exit)) (now (tick .exit))) (now (total .exit)) (now («next_alert_id» .exit)) (now («total_alerts» .exit))); result = r } ≡ inspectSv (svMonitorOf m settings (record { «src_mac» = now («rule_macs» .entry); svid = record { octets = now («rule_svids» .entry); lens = now («rule_lens» .entry) }; «expected_smp_rate» = «rule_rates»; count = «rule_count» }) (cbTableOf (now («cb_refs» .entry)) (now («cb_lens» .entry)) (now («cb_kinds» .entry)) (m .«cb_reservations» .«owner_client_id») (now («cb_bound» .entry)) (now («cb_macs» .entry)) (now («cb_active» .entry))) (clockTableOf (now («clock_macs» .entry)) (now («clock_seconds» .entry)) (now («clock_fractions» .entry)) (now («clock_active» .entry)) (now («clock_used» .entry)) (now («clock_tick» .entry))) (svTableOf (now (svids .entry)) (now («svid_lens» .entry)) (now (counts .entry)) (now (active .entry)) (now (used .entry)) (now (tick .entry))) (now (total .entry)) (now («next_alert_id» .entry)) (now («total_alerts» .entry))) frame) ⌝ }
+// Counts and checks an SV frame.
+fn check_sv_on(m: &mut [u64; 1218], frame: SvFrame) -> CheckAlerts
+    ensures { λ r. ⌜ record { monitor = monitorOf (now (m .exit)); answer = alertsOf r } ≡ checkedSv (monitorOf (now (m .entry))) frame ⌝ }
 {
-    let alerts = sv_checks(
-        frame,
-        settings,
-        rule_macs,
-        rule_svids,
-        rule_lens,
-        rule_rates,
-        rule_count,
-        cb_refs,
-        cb_lens,
-        cb_kinds,
-        cb_active,
-        cb_bound,
-        cb_macs,
-        clock_macs,
-        clock_seconds,
-        clock_fractions,
-        clock_active,
-        clock_used,
-        clock_tick,
-        svids,
-        svid_lens,
-        counts,
-        active,
-        used,
-        tick,
-    );
-    *total = saturating_increment(*total);
-    push_alerts_in(
+    let src_mac = frame.src_mac;
+    let name = frame.svid;
+    let dataset_ref = frame.dataset_ref;
+    let svid = plain_key(name, frame.svid_len);
+    let dataset = reservation_key(false, dataset_ref, frame.dataset_ref_len);
+    let n = SvNumbers {
+        address: address_of(src_mac),
+        seconds: frame.t_seconds_since_epoch,
+        fraction: frame.t_fraction_of_second,
+        smp_cnt: frame.smp_cnt,
+        smp_rate: frame.smp_rate,
+    };
+    count_frame_on(m, SV_TOTAL_INSPECTED);
+    sv_checks_on(m, &svid, &dataset, n)
+}
+
+// Inspects an SV frame.
+pub fn inspect_sv_on(m: &mut [u64; 1218], frame: SvFrame) -> InspectResult
+    ensures { λ r. ⌜ record { monitor = monitorOf (now (m .exit)); answer = r } ≡ inspectSv (monitorOf (now (m .entry))) frame ⌝ }
+{
+    let alerts = check_sv_on(m, frame);
+    report_on(
+        m,
         alerts,
         SOURCE_IEC61850_SV,
         frame.smp_cnt as u32,
         frame.timestamp_us,
-        next_alert_id,
-        total_alerts,
     )
 }
 
-impl Iec61850Monitor {
-    // The monitor after an SV frame, and the result.
-    pub fn inspect_sv(self, frame: SvFrame) -> Inspected
-        ensures { λ r. ⌜ r ≡ inspectSv self frame ⌝ }
-    {
-        let settings = self.settings;
-        let rule_rates = self.rules.sv.expected_smp_rate;
-        let mut cb_bound = self.cb_reservations.bound;
-        let mut cb_macs = self.cb_reservations.bound_src_mac;
-        let mut clock_macs = self.time_trackers.src_mac;
-        let mut clock_seconds = self.time_trackers.last_t_seconds;
-        let mut clock_fractions = self.time_trackers.last_t_fraction;
-        let mut clock_active = self.time_trackers.ageing.active;
-        let mut clock_used = self.time_trackers.ageing.last_used;
-        let mut clock_tick = self.time_trackers.ageing.tick;
-        let mut svids = self.sv_seq.svid.octets;
-        let mut svid_lens = self.sv_seq.svid.lens;
-        let mut counts = self.sv_seq.last_smp_cnt;
-        let mut active = self.sv_seq.ageing.active;
-        let mut used = self.sv_seq.ageing.last_used;
-        let mut tick = self.sv_seq.ageing.tick;
-        let mut total = self.totals.sv_total_inspected;
-        let mut next_alert_id = self.totals.alerts.next_alert_id;
-        let mut total_alerts = self.totals.alerts.total_alerts;
-        let result = inspect_sv_in(
-            frame,
-            settings,
-            &self.rules.sv.src_mac,
-            &self.rules.sv.svid.octets,
-            &self.rules.sv.svid.lens,
-            rule_rates,
-            self.rules.sv.count,
-            &self.cb_reservations.cb_ref.octets,
-            &self.cb_reservations.cb_ref.lens,
-            &self.cb_reservations.is_goose,
-            &self.cb_reservations.active,
-            &mut cb_bound,
-            &mut cb_macs,
-            &mut clock_macs,
-            &mut clock_seconds,
-            &mut clock_fractions,
-            &mut clock_active,
-            &mut clock_used,
-            &mut clock_tick,
-            &mut svids,
-            &mut svid_lens,
-            &mut counts,
-            &mut active,
-            &mut used,
-            &mut tick,
-            &mut total,
-            &mut next_alert_id,
-            &mut total_alerts,
-        );
-        let mut totals = self.totals;
-        let counters = AlertCounters {
-            next_alert_id: next_alert_id,
-            total_alerts: total_alerts,
-        };
-        totals.sv_total_inspected = total;
-        totals.alerts = counters;
-        let mut reservations = self.cb_reservations;
-        reservations.bound = cb_bound;
-        reservations.bound_src_mac = cb_macs;
-        let clocks = TimeTrackers {
-            src_mac: clock_macs,
-            last_t_seconds: clock_seconds,
-            last_t_fraction: clock_fractions,
-            ageing: Ageing {
-                active: clock_active,
-                last_used: clock_used,
-                tick: clock_tick,
-            },
-        };
-        let streams = SvSeqTable {
-            svid: Names {
-                octets: svids,
-                lens: svid_lens,
-            },
-            last_smp_cnt: counts,
-            ageing: Ageing {
-                active: active,
-                last_used: used,
-                tick: tick,
-            },
-        };
-        let mut out = self;
-        out.cb_reservations = reservations;
-        out.time_trackers = clocks;
-        out.sv_seq = streams;
-        out.totals = totals;
-        Inspected {
-            monitor: out,
-            result: result,
-        }
-    }
+// The same, and answers the verdict.
+pub fn sv_verdict_on(m: &mut [u64; 1218], frame: SvFrame) -> [u8; 8]
+    ensures { λ r. ⌜ record { monitor = monitorOf (now (m .exit)); answer = r } ≡ withVerdict (inspectSv (monitorOf (now (m .entry))) frame) ⌝ }
+{
+    let alerts = check_sv_on(m, frame);
+    verdict_on(m, alerts)
+}
 
-    // The monitor after a raw SV frame, and the result; a frame that cannot be read leaves the monitor, and a clean result.
-    pub fn inspect_raw_sv(self, bytes: &[u8], timestamp_us: u64) -> RawInspected
-        ensures { λ r. ⌜ r ≡ inspectRawSv self (now (bytes .entry)) «timestamp_us» ⌝ }
-    {
-        let parsed = parse_sv(bytes, timestamp_us);
-        let answer = parsed.answer;
-        let Parsed::Frame = answer else {
-            let clean = InspectResult::clean(SOURCE_IEC61850_SV);
-            return RawInspected {
-                answer: answer,
-                monitor: self,
-                result: clean,
-            };
-        };
-        let frame = parsed.frame;
-        let inspected = self.inspect_sv(frame);
-        let monitor = inspected.monitor;
-        let result = inspected.result;
-        RawInspected {
+// Inspects a raw SV frame. One that cannot be read leaves the monitor, and is not allowed.
+pub fn inspect_raw_sv_on(m: &mut [u64; 1218], bytes: &[u8], timestamp_us: u64) -> RawSv
+    ensures { λ r. ⌜ record { monitor = monitorOf (now (m .exit)); answer = r }
+        ≡ inspectRawSv (monitorOf (now (m .entry))) (now (bytes .entry)) «timestamp_us» ⌝ }
+{
+    let parsed = parse_sv(bytes, timestamp_us);
+    let answer = parsed.answer;
+    let Parsed::Frame = answer else {
+        let mut result = InspectResult::clean(SOURCE_IEC61850_SV);
+        result.allowed = false;
+        return RawSv {
             answer: answer,
-            monitor: monitor,
             result: result,
-        }
+        };
+    };
+    let frame = parsed.frame;
+    let result = inspect_sv_on(m, frame);
+    RawSv {
+        answer: answer,
+        result: result,
     }
 }

@@ -1,11 +1,13 @@
 // What the checks of an inspection found, and the result that reports it, carried over from
 // industrial/iec61850-monitor/src/lib.rs of craton-shield a31d888527 (Apache-2.0) and changed: alerts are added once, at the end.
+ghost use Prim.Native.Nat.{ℕ};
 ghost use mathlib.Core.Path.{_≡_};
-ghost use mathlib.Core.Bool.{_&&_, not};
-ghost use mathlib.Core.List.{foldl};
-ghost use Rattle.records.specs.Result.{cleanResult};
-ghost use Rattle.inspection.specs.Report.{allowedOctet, alertNoted, clockFindings, findingsOf, alertsOf, firstFindings, isNothing, noneFound, notedOf, reportedNext};
-use crate::rules::RuleCheck;
+ghost use mathlib.Core.List.{[], _∷_, foldl};
+ghost use Rattle.monitor.specs.Monitor.{monitorOf};
+ghost use Rattle.inspection.specs.Report.{refusal, clockFindings, reportedNext, alertsPushed, ended, reported, findingsOf, alertsOf};
+ghost use Rattle.inspection.specs.Report.{isNothing, noneFound, cleanVerdict, allowedOctet, alertNoted, withVerdict};
+use monitor::totals::alert_counters_on;
+use monitor::totals::set_alert_counters_on;
 use records::alert::AlertCode;
 use records::alert::AlertSeverity;
 use records::counter::saturating_increment;
@@ -28,36 +30,38 @@ pub struct CheckAlerts {
     pub third: CheckAlert,
 }
 
+// What the rules say of a frame: it is refused, or the rate that they give it, 0 for none.
+pub enum RuleCheck {
+    Refused(AlertSeverity, AlertCode),
+    Rate(u16),
+}
+
+// One alert.
+pub fn one_alert(alert: CheckAlert) -> CheckAlerts
+    ensures { λ r. ⌜ alertsOf r ≡ findingsOf alert ⌝ }
+{
+    CheckAlerts {
+        first: alert,
+        second: CheckAlert::Nothing,
+        third: CheckAlert::Nothing,
+    }
+}
+
+// A frame refused with one alert.
+pub fn refused(severity: AlertSeverity, code: AlertCode) -> CheckAlerts
+    ensures { λ r. ⌜ alertsOf r ≡ refusal severity code ∷ [] ⌝ }
+{
+    one_alert(CheckAlert::Refusal(severity, code))
+}
+
 // A clock alert refuses, and checking goes on.
-fn clock_alert(alert: bool) -> CheckAlert
+pub fn clock_alert(alert: bool) -> CheckAlert
     ensures { λ r. ⌜ findingsOf r ≡ clockFindings alert ⌝ }
 {
     if alert {
         CheckAlert::Refusal(AlertSeverity::High, AlertCode::TimeSyncSpoofing)
     } else {
         CheckAlert::Nothing
-    }
-}
-
-// Whether the checking goes on: the rules permit the frame, and the check behind them does not refuse it.
-pub fn goes_on(permitted: bool, refused: bool) -> bool
-    ensures { λ r. ⌜ r ≡ (permitted && not refused) ⌝ }
-{
-    if permitted { !refused } else { false }
-}
-
-// The first alert of a GOOSE or SV frame: what ended the checking, or the clock's.
-pub fn first_alert(rule: RuleCheck, hijack: bool, clock: bool) -> CheckAlert
-    ensures { λ r. ⌜ findingsOf r ≡ firstFindings rule hijack clock ⌝ }
-{
-    match rule {
-        RuleCheck::Refused(severity, code) => CheckAlert::Refusal(severity, code),
-        RuleCheck::Rate(_) => {
-            if hijack {
-                return CheckAlert::Refusal(AlertSeverity::High, AlertCode::CbHijack);
-            }
-            clock_alert(clock)
-        }
     }
 }
 
@@ -91,9 +95,12 @@ fn is_nothing(alert: CheckAlert) -> bool
 }
 
 // Whether three checks found nothing.
-pub fn none_found(first: CheckAlert, second: CheckAlert, third: CheckAlert) -> bool
-    ensures { λ r. ⌜ r ≡ noneFound first second third ⌝ }
+fn none_found(alerts: CheckAlerts) -> bool
+    ensures { λ r. ⌜ r ≡ noneFound alerts ⌝ }
 {
+    let first = alerts.first;
+    let second = alerts.second;
+    let third = alerts.third;
     if is_nothing(first) {
         if is_nothing(second) {
             return is_nothing(third);
@@ -110,7 +117,7 @@ fn push_alerts(
     source_id: u32,
     ts_us: u64,
 ) -> Pushed
-    ensures { λ r. ⌜ r ≡ foldl (reportedNext «source_type» «source_id» «ts_us») (record { result = cleanResult «source_type»; counters = counters }) (alertsOf alerts) ⌝ }
+    ensures { λ r. ⌜ r ≡ alertsPushed «source_type» «source_id» «ts_us» counters (alertsOf alerts) ⌝ }
 {
     let first = alerts.first;
     let second = alerts.second;
@@ -125,31 +132,23 @@ fn push_alerts(
     push_alert(two, third, source_type, source_id, ts_us)
 }
 
-// The same with the counters where they stand. Most frames have no alert: the counters are left, and a clean result is answered at once.
-pub fn push_alerts_in<'a>(
+// The result that reports what the checks found, in a monitor. Most frames have no alert: the counters are left, and a clean result is answered at once.
+pub fn report_on(
+    m: &mut [u64; 1218],
     alerts: CheckAlerts,
     source_type: u8,
     source_id: u32,
     ts_us: u64,
-    next_alert_id: &'a mut u64,
-    total_alerts: &'a mut u64,
 ) -> InspectResult
-    ensures { λ r. ⌜ record { result = r; counters = record { «next_alert_id» = now («next_alert_id» .exit); «total_alerts» = now («total_alerts» .exit) } } ≡ foldl (reportedNext «source_type» «source_id» «ts_us») (record { result = cleanResult «source_type»; counters = record { «next_alert_id» = now («next_alert_id» .entry); «total_alerts» = now («total_alerts» .entry) } }) (alertsOf alerts) ⌝ }
+    ensures { λ r. ⌜ record { monitor = monitorOf (now (m .exit)); answer = r }
+        ≡ reported «source_type» «source_id» «ts_us» (ended (monitorOf (now (m .entry))) (alertsOf alerts)) ⌝ }
 {
-    let first = alerts.first;
-    let second = alerts.second;
-    let third = alerts.third;
-    if none_found(first, second, third) {
+    if none_found(alerts) {
         return InspectResult::clean(source_type);
     }
-    let counters = AlertCounters {
-        next_alert_id: *next_alert_id,
-        total_alerts: *total_alerts,
-    };
+    let counters = alert_counters_on(m);
     let pushed = push_alerts(counters, alerts, source_type, source_id, ts_us);
-    let counted = pushed.counters;
-    *next_alert_id = counted.next_alert_id;
-    *total_alerts = counted.total_alerts;
+    set_alert_counters_on(m, pushed.counters);
     pushed.result
 }
 
@@ -209,16 +208,9 @@ fn note_check(n: Noted, alert: CheckAlert) -> Noted
     }
 }
 
-// The verdict that reports what the checks found, and the counters after it. No result is made: a verdict does not hold the source, its
-// number and the time that the definition gives each alert, so they are not read.
-pub fn verdict_on(
-    counters: AlertCounters,
-    alerts: CheckAlerts,
-    source_type: u8,
-    source_id: u32,
-    ts_us: u64,
-) -> Noted
-    ensures { λ r. ⌜ r ≡ notedOf (foldl (reportedNext «source_type» «source_id» «ts_us») (record { result = cleanResult «source_type»; counters = counters }) (alertsOf alerts)) ⌝ }
+// The verdict that reports what the checks found, and the counters after it.
+fn verdict_of(counters: AlertCounters, alerts: CheckAlerts) -> Noted
+    ensures { λ r. ⌜ r ≡ foldl alertNoted (record { verdict = cleanVerdict; counters = counters }) (alertsOf alerts) ⌝ }
 {
     let first = alerts.first;
     let second = alerts.second;
@@ -227,10 +219,29 @@ pub fn verdict_on(
         verdict: CLEAN_VERDICT,
         counters: counters,
     };
-    if none_found(first, second, third) {
-        return none;
-    }
     let one = note_check(none, first);
     let two = note_check(one, second);
     note_check(two, third)
+}
+
+// The verdict that reports what the checks found, in a monitor. No result is made.
+fn noted_on(m: &mut [u64; 1218], alerts: CheckAlerts) -> [u8; 8]
+    ensures { λ r. ⌜ ((source sourceNumber time : ℕ) → record { monitor = monitorOf (now (m .exit)); answer = r }
+        ≡ withVerdict (reported source sourceNumber time (ended (monitorOf (now (m .entry))) (alertsOf alerts)))) ⌝ }
+{
+    let counters = alert_counters_on(m);
+    let noted = verdict_of(counters, alerts);
+    set_alert_counters_on(m, noted.counters);
+    noted.verdict
+}
+
+// The same. Most frames have no alert, and get their verdict at once.
+pub fn verdict_on(m: &mut [u64; 1218], alerts: CheckAlerts) -> [u8; 8]
+    ensures { λ r. ⌜ ((source sourceNumber time : ℕ) → record { monitor = monitorOf (now (m .exit)); answer = r }
+        ≡ withVerdict (reported source sourceNumber time (ended (monitorOf (now (m .entry))) (alertsOf alerts)))) ⌝ }
+{
+    if none_found(alerts) {
+        return CLEAN_VERDICT;
+    }
+    noted_on(m, alerts)
 }

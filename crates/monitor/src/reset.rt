@@ -1,4 +1,5 @@
-// A new monitor and reset, carried over from industrial/iec61850-monitor/src/lib.rs of craton-shield a31d888527 (Apache-2.0) and changed: each part made as new in place.
+// A new monitor and reset, carried over from industrial/iec61850-monitor/src/lib.rs of craton-shield a31d888527 (Apache-2.0) and changed: each part
+// made as new in place.
 ghost use mathlib.Core.Path.{_≡_};
 ghost use Prim.Native.Nat.{_≤_, _-_};
 ghost use borrow.Rule.Slice.PartMut.{putMid};

@@ -2,7 +2,11 @@
 // frame, and the codes of its alerts in order.
 use crate::frame_points::good_frame;
 use crate::write_number;
-use inspection::monitor::Iec61850Monitor;
+use checks::sv_seq::SvSeqOutcome;
+use inspection::iec61850_monitor::Iec61850Monitor;
+use inspection::sv_seq::SvChecked;
+use inspection::sv_seq::SvSeqTable;
+use inspection::sv_seq::check_sv_seq;
 use libc::STDOUT_FILENO;
 use records::alert::CodedAlert;
 use records::frame::GooseFrame;
@@ -67,25 +71,58 @@ fn inspect_count(m: Iec61850Monitor, label: &[u8], count: u16) -> Iec61850Monito
     inspected.monitor
 }
 
-// One count and then another, on a new monitor.
-fn write_counts(first: u16, second: u16) {
-    let m = inspect_count(Iec61850Monitor::new(), b"count ", first);
-    inspect_count(m, b"then ", second);
+// The streams after a count of the stream, and its outcome.
+fn check_count(table: SvSeqTable, count: u16) -> SvChecked {
+    let f = sv_frame(count);
+    let svid = f.svid;
+    check_sv_seq(table, svid, f.svid_len, f.smp_cnt)
 }
 
+fn gap_of(outcome: SvSeqOutcome) -> u16 {
+    match outcome {
+        SvSeqOutcome::FirstSeen => 0,
+        SvSeqOutcome::Replay => 0,
+        SvSeqOutcome::ForwardGap(gap) => gap,
+        SvSeqOutcome::CycleWrap => 0,
+        SvSeqOutcome::SuspiciousSmpGap(gap) => gap,
+    }
+}
+
+// The outcome of a count after another, on a line, unless it is the one of this number and gap.
+fn expect_outcome(first: u16, second: u16, number: u8, gap: u16) {
+    let once = check_count(SvSeqTable::new(), first);
+    let table = once.table;
+    let twice = check_count(table, second);
+    let outcome = twice.outcome;
+    if outcome.number() == number && gap_of(outcome) == gap {
+        return;
+    }
+    write_part(b"outcome ", outcome.number() as u64);
+    write_number(b" gap ", gap_of(outcome) as u64);
+}
+
+// One count and then another, whose outcome has this number and gap, on a new monitor.
+fn write_counts(first: u16, second: u16, number: u8, gap: u16) {
+    let m = inspect_count(Iec61850Monitor::new(), b"count ", first);
+    inspect_count(m, b"then ", second);
+    expect_outcome(first, second, number, gap);
+}
+
+// The rows of `countPoints` (crate inspection, specs/Points.antt): replay is 1, wrap 3, suspicious 4.
 fn count_points() {
-    write_counts(40_000, 7234);
-    write_counts(40_000, 7233);
-    write_counts(65_535, 255);
-    write_counts(65_535, 256);
+    write_counts(40_000, 7234, 1, 0);
+    write_counts(40_000, 7233, 4, 32_769);
+    write_counts(65_535, 255, 3, 0);
+    write_counts(65_535, 256, 4, 257);
 }
 
 // The monitor after a raw frame.
 fn inspect_raw(m: Iec61850Monitor, label: &[u8], octets: &[u8; 39]) -> Iec61850Monitor {
     let inspected = m.inspect_raw_sv(octets, 7);
     io::write_all(STDOUT_FILENO, label);
-    let answer = inspected.answer;
-    let result = inspected.result;
+    let raw = inspected.raw;
+    let answer = raw.answer;
+    let result = raw.result;
     match answer {
         Parsed::Frame => write_verdict(result),
         Parsed::Error(e) => write_number(b": error ", e.number() as u64),

@@ -1,6 +1,6 @@
 -- Two lists by last use are equal exactly when they answer all further frames equally: unequal ones are distinguished by at most n frames,
 -- new keys until the first place at which they differ is the last, then a key of which they have different values up to there.
-use Prim.Native.Nat.{ℕ, zero, suc, _+_, _-_, _≤_, _<_, _^_}
+use Prim.Native.Nat.{ℕ, zero, suc, _+_, _-_, _≤_, _<_}
 use mathlib.Core.HLevel.{×-discrete}
 use mathlib.Core.List.{List, [], _∷_, _++_, foldl, reverse, List-discrete, head-eq-of-cons-eq, tail-eq-of-cons-eq}
 use mathlib.Core.Logic.{_≢_, _↔_, by-cases, if-pos, if-neg, Dec·not-not}
@@ -9,13 +9,9 @@ use mathlib.Core.Path.{_≡_, refl}
 use native.Mathlib.Omega.{arith}
 use lib.ListN.{length, take, length-append, length-take}
 use lib.Seq.{take-take, take-all}
-use Rattle.records.proofs.AgeingTable.{Table, ageing, Represents, represents-new, value-lookup, next, tick-stepped, represents-stepped}
 use Rattle.records.proofs.ByLastUse.{touch, touch-distinct, by-last-use}
 use Rattle.records.proofs.KeyedLists.{All, Distinct, all-take, all-append, all-without, without-absent, absent-none, absent-key, lookup-tails, difference}
-use Rattle.records.specs.declared.ageing.EqualAges.{EqualAges}
-use Rattle.records.specs.Ageing.{noUse}
 use Rattle.records.specs.Remembered.{lookup, after, remembered}
-use Rattle.records.specs.Table.{valueOf}
 
 -- the outputs of a machine, each of its input and of the state that the inputs before it left
 abbrev pub outputs : {S X A : Type 0} → (S → X → A) → (S → X → S) → S → List X → List A
@@ -34,37 +30,6 @@ module _ {K W I A : Type 0} (dec : Discrete K) where
 
   abbrev pub answers : ℕ → (I → W) → (W → I → W) → (Option W → I → A) → List (K × W) → List (K × I) → List A
   answers n fresh step ans = outputs (answer ans) (touch dec n fresh step)
-
-module _ {K W I A : Type 0} (B : Table K W) (dec : Discrete K) (rule : EqualAges) (fresh : I → W) (step : W → I → W) (ans : Option W → I → A) where
-  abbrev pub tableAnswers : B .State → List (K × I) → List A
-  tableAnswers = outputs (λ t x. ans (valueOf (B .columns) t (x .0)) (x .1)) (next B dec rule fresh step)
-
-  -- a table answers as the list that it represents
-  pub table-answers : {t : B .State} {l : List (K × W)} → Represents B t l → (h : List (K × I)) → All (λ x. B .Legal (x .0)) h → ageing B t .tick + length h < 2 ^ 32
-      → tableAnswers t h ≡ answers dec 16 fresh step ans l h
-  table-answers r [] g w = refl
-  table-answers r (x ∷ h) g w =
-      rw (
-        value-lookup B dec r (x .0) (g .0),
-        table-answers (represents-stepped B dec rule fresh step r x (g .0) (omega arith)) h (g .1)
-            (omega (arith, tick-stepped B dec rule fresh step r x (g .0) (omega arith))),
-      )
-
-  -- also after a history
-  history-answers : {t : B .State} {l : List (K × W)} → Represents B t l → (h f : List (K × I)) → All (λ x. B .Legal (x .0)) h → All (λ x. B .Legal (x .0)) f
-      → ageing B t .tick + (length h + length f) < 2 ^ 32
-      → tableAnswers (foldl (next B dec rule fresh step) t h) f ≡ answers dec 16 fresh step ans (foldl (touch dec 16 fresh step) l h) f
-  history-answers r [] f g g′ w = table-answers r f g′ (omega arith)
-  history-answers r (x ∷ h) f g g′ w =
-      history-answers (represents-stepped B dec rule fresh step r x (g .0) (omega arith)) h f (g .1) g′
-      (omega (arith, tick-stepped B dec rule fresh step r x (g .0) (omega arith)))
-
-  -- from a fresh table, a history leaves what answers as its remembered list
-  pub remembered-answers : (t : B .State) → B .Sized t → ageing B t ≡ noUse → (h f : List (K × I)) → All (λ x. B .Legal (x .0)) h → All (λ x. B .Legal (x .0)) f
-      → length h + length f < 2 ^ 32
-      → tableAnswers (foldl (next B dec rule fresh step) t h) f ≡ answers dec 16 fresh step ans (remembered dec 16 fresh step (reverse h)) f
-  unfolding noUse
-  remembered-answers t z e h f g g′ w = rw (← by-last-use dec 16 fresh step h) (history-answers (represents-new B t z e) h f g g′ (rw e (omega arith)))
 
 -- what makes unequal lists distinguishable: the legal keys and inputs, what may be known of a key, an input to which any two such are answered
 -- differently, and more new keys than two lists have entries

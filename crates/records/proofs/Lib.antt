@@ -8,14 +8,9 @@ pub mod BucketWalks
 pub mod ScheduleLaws
 pub mod NameLaws
 pub mod OctetLaws
-pub mod NameKeys
 pub mod SearchLaws
-pub mod AgeingLaws
-pub mod TableLaws
 pub mod KeyedLists
 pub mod ByLastUse
 pub mod Projected
-pub mod UseOrder
-pub mod AgeingTable
 pub mod Distinguish
 pub mod PointsHold

@@ -3,24 +3,19 @@ use mathlib.Core.Path.{_≡_, refl, ap, _∙_, sym}
 use mathlib.Core.Bool.{true, false, cond}
 use mathlib.Core.Logic.{⊎-elim}
 use mathlib.Core.List.{List, [], _∷_, _++_, append-assoc, append-nil}
-use Prim.Native.Nat.{ℕ, zero, suc, _+_, _*_, _≤_, _<_}
+use Prim.Native.Nat.{ℕ, zero, suc, _+_, _≤_, _<_}
 use native.Mathlib.Nat.{zero-add, not-suc-le-zero, le-of-suc-le-suc, eq-or-lt-of-le}
 use native.Mathlib.Numerals.{add-one}
 use native.Mathlib.Omega.{arith}
-use native.Mathlib.Decide.{ℕ-discrete, decLt}
-use borrow.Author.Tests.{lt-ltb, le-ltb, eq-eqb, ne-eqb, eqb-true}
+use native.Mathlib.Decide.{ℕ-discrete}
+use borrow.Author.Tests.{lt-ltb, eq-eqb, ne-eqb, eqb-true}
 use lib.Dec.{eqb, ltb}
 use lib.ListN.{length, getD, set, drop, List·getD-append, length-append, length-set, drop-of-length-le}
 use lib.Seq.{drop-cons, set-at, set-out, set-getD, getD-at, getD-take, getD-set-same, getD-set-other, length-take-le, ext-getD}
 use Rattle.records.proofs.Booleans.{cond-yes, and-true, and-false, and-no, and-both}
-use Rattle.records.specs.declared.name.Names.{Names}
-use Rattle.records.specs.Name.{validLen, nameOf, tabulate, octetAt, padded, agree, overwritten, sameOctets, sameName, octetsStored, nameStored}
+use Rattle.records.specs.Name.{validLen, nameOf, tabulate, octetAt, padded, agree, overwritten}
 
 module _ (f g : ℕ → ℕ) (i : ℕ) where
-  pub agree-differ : (f i ≡ g i → ⊥) → agree f g (i + 1) ≡ false
-  unfolding agree
-  agree-differ n = rw (add-one, ne-eqb (f i) (g i) n) (and-false (agree f g i))
-
   pub agree-more : f i ≡ g i → agree f g (i + 1) ≡ agree f g i
   unfolding agree
   agree-more e = rw (add-one, eq-eqb (f i) (g i) e) (and-true (agree f g i))
@@ -118,33 +113,6 @@ module _ (f g : ℕ → ℕ) where
   tabulate-same zero h = refl
   tabulate-same (suc n) h = rw (tabulate-same n (λ k l. h k (omega arith)), h n (omega arith))
 
--- names of one stated length are kept as equal octets exactly when they are equal
-module _ (a b : List ℕ) (n : ℕ) (la : length a ≡ 64) (lb : length b ≡ 64) where
-  pub padded-same : nameOf a n ≡ nameOf b n → padded a n ≡ padded b n
-  unfolding padded
-  padded-same e = tabulate-same _ _ 64 (λ k l. go k l (decLt k n))
-    where
-      go : (k : ℕ) → k < 64 → Dec (k < n) → cond (ltb k n) (octetAt a k) 0 ≡ cond (ltb k n) (octetAt b k) 0
-      go k h (yes l) =
-          let m : k < validLen n = omega arith in
-          rw (lt-ltb k n l, ← getD-take (validLen n) a k 0 m, ← getD-take (validLen n) b k 0 m, e)
-      go k h (no l) = rw (le-ltb k n (omega arith))
-
-  pub padded-only : padded a n ≡ padded b n → nameOf a n ≡ nameOf b n
-  padded-only e =
-      ext-getD 0 (nameOf a n) (nameOf b n) (size a la ∙ sym (size b lb)) (λ k l. go k (omega (arith, size a la)))
-    where
-      size : (c : List ℕ) → length c ≡ 64 → length (nameOf c n) ≡ validLen n
-      size c h = length-take-le (validLen n) c (omega arith)
-
-      at : (c : List ℕ) (k : ℕ) → k < validLen n → octetAt (padded c n) k ≡ octetAt c k
-      at c k l = padded-at c n k (omega arith) ∙ cond-yes _ _ (lt-ltb k n (omega arith))
-
-      go : (k : ℕ) → k < validLen n → octetAt (nameOf a n) k ≡ octetAt (nameOf b n) k
-      go k l =
-          rw (getD-take (validLen n) a k 0 l, getD-take (validLen n) b k 0 l)
-          (sym (at a k l) ∙ ap (λ (c : List ℕ). octetAt c k) e ∙ at b k l)
-
 -- ---- what a slot holds after a name is stored
 
 module _ (l : List ℕ) (start : ℕ) (f : ℕ → ℕ) where
@@ -164,42 +132,13 @@ module _ (l : List ℕ) (start : ℕ) (f : ℕ → ℕ) where
   overwritten-out (suc n) k o =
       getD-set-other (overwritten l start f n) (start + n) k (f n) 0 (o n (omega arith)) ∙ overwritten-out n k (λ j h. o j (omega arith))
 
-module _ (octets name : List ℕ) (slot : ℕ) (h : slot < 16) where
-  pub stored-here : length octets ≡ 1024 → (k : ℕ) → k < 64 → octetAt (octetsStored octets slot name) (slot * 64 + k) ≡ octetAt name k
-  unfolding octetsStored
-  stored-here e k l = rw (lt-ltb slot 16 h) (overwritten-in octets (slot * 64) (octetAt name) 64 k l (omega arith))
-
-  pub stored-elsewhere :
-      (other k : ℕ) → (other ≡ slot → ⊥) → k < 64
-      → octetAt (octetsStored octets slot name) (other * 64 + k) ≡ octetAt octets (other * 64 + k)
-  unfolding octetsStored
-  stored-elsewhere other k n l =
-      rw (lt-ltb slot 16 h) (overwritten-out octets (slot * 64) (octetAt name) 64 (other * 64 + k) (λ j b e. n (omega arith)))
-
 -- ---- names as keys
 
 module _ (octets : List ℕ) (len : ℕ) (size : length octets ≡ 64) where
   pub length-name : length (nameOf octets len) ≡ validLen len
   length-name = length-take-le (validLen len) octets (omega arith)
 
-  -- a name is kept as the octets that a frame states
-  pub padded-name : padded (nameOf octets len) (length (nameOf octets len)) ≡ padded octets (validLen len)
-  unfolding padded
-  padded-name = rw length-name (tabulate-same _ _ 64 (λ k h. go k (decLt k (validLen len))))
-    where
-      go : (k : ℕ) → Dec (k < validLen len) → cond (ltb k (validLen len)) (octetAt (nameOf octets len) k) 0 ≡ cond (ltb k (validLen len)) (octetAt octets k) 0
-      go k (yes l) = rw (lt-ltb k (validLen len) l) (getD-take (validLen len) octets k 0 l)
-      go k (no l) = rw (le-ltb k (validLen len) (omega arith))
-
-  -- kept as these octets and this length
-  module _ {kept : List ℕ} {n : ℕ} (l : n ≡ validLen len) (p : kept ≡ padded octets n) where
-    pub kept-len : n ≡ length (nameOf octets len)
-    kept-len = l ∙ sym length-name
-
-    pub kept-octets : kept ≡ padded (nameOf octets len) (length (nameOf octets len))
-    kept-octets = p ∙ ap (padded octets) l ∙ sym padded-name
-
--- and a name of at most 64 octets is what its padded octets state
+-- a name of at most 64 octets is what its padded octets state
 pub name-padded : (name : List ℕ) → length name ≤ 64 → nameOf (padded name (length name)) (length name) ≡ name
 name-padded name h =
     let size = length-take-le (validLen (length name)) (padded name (length name)) (omega (arith, length-padded name (length name))) in
@@ -215,15 +154,3 @@ unfolding overwritten
 overwritten-again l start f zero e = refl
 overwritten-again l start f (suc n) e =
     rw (overwritten-again l start f n (λ k h. e k (omega arith)), ← e n (omega arith)) (set-getD l (start + n) 0)
-
-pub stored-again : (names : Names) (slot : ℕ) (name : List ℕ) (len : ℕ) → sameName (names .octets) (names .lens) slot name len ≡ true → nameStored names slot name len ≡ names
-unfolding sameName sameOctets nameStored octetsStored
-stored-again names slot name len e =
-    let a = and-both (eqb (getD (names .lens) slot 0) len) _ e in
-    let b = and-both (ltb slot 16) _ (a .1) in
-    rw (
-      b .0,
-      overwritten-again (names .octets) (slot * 64) (octetAt name) 64 (agree-at _ _ 64 (b .1)),
-      ← eqb-true (getD (names .lens) slot 0) len (a .0),
-      set-getD (names .lens) slot 0,
-    )

@@ -8,11 +8,9 @@ pub mod Schedule
 pub mod Hash
 pub mod Bucket
 pub mod Search
-pub mod Ageing
 pub mod Name
 pub mod Legal
 pub mod Remembered
-pub mod Table
 pub mod Decide
 pub mod Points
 pub mod Verdict

@@ -1,9 +1,6 @@
 -- The search for a slot (01, "Forms to change": a search that stops at its first hit and yields that place).
 use Prim.Native.Nat.{ℕ, zero, suc}
-use mathlib.Core.Bool.{Bool, true, false, _&&_, cond}
-use mathlib.Core.List.{List}
-use lib.Dec.{eqb}
-use lib.ListN.{getD}
+use mathlib.Core.Bool.{Bool, true, false, cond}
 use Rattle.records.specs.declared.search.Found.{Found}
 use Rattle.records.specs.declared.search.Found.the-variants.{At, Nothing}
 
@@ -15,14 +12,6 @@ firstFrom test i (suc n) = cond (test i) (At i) (firstFrom test (suc i) n)
 -- the first of sixteen slots that passes the test
 abbrev pub first : (ℕ → Bool) → Found
 first test = firstFrom test 0 16
-
--- the first slot in use that passes the test
-abbrev pub firstUsed : List Bool → (ℕ → Bool) → Found
-firstUsed active test = first (λ i. getD active i false && test i)
-
--- whether a slot of a column holds this number
-abbrev pub hasNumber : List ℕ → ℕ → ℕ → Bool
-hasNumber column number i = eqb (getD column i 0) number
 
 -- the slot that was found, or another where there is none
 abbrev pub slotOr : ℕ → Found → ℕ

@@ -1,5 +1,4 @@
 // The lowest crate of the IEC 61850 monitor: numbers and enums, alerts, results, frames, schedule, hash, bucket, names, ageing.
-pub mod ageing;
 pub mod alert;
 pub mod bucket;
 pub mod counter;

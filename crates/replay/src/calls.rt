@@ -1,84 +1,89 @@
-// The calls of a script that may change the monitor and are no inspections, each made from its record.
+// The calls of a script, each made from its record on the monitor's words, and the lines of their answers.
 ghost use Prim.Native.Nat.{_≤_};
 ghost use lib.ListN.{length};
 ghost use Rattle.io.specs.Counts.{Counts};
-use inspection::monitor::Configured;
-use inspection::monitor::Iec61850Monitor;
-use inspection::rules::Added;
+use checks::rules::Added;
+use inspection::address::address_of;
+use inspection::inspect_goose::inspect_goose_on;
+use inspection::inspect_mms::inspect_mms_on;
+use inspection::inspect_sv::inspect_raw_sv_on;
+use inspection::inspect_sv::inspect_sv_on;
+use monitor::parts::add_goose_publisher_on;
+use monitor::parts::add_mms_rule_on;
+use monitor::parts::add_sv_publisher_on;
+use monitor::reset::new_on;
+use monitor::reset::reset_on;
+use monitor::settings::STRICT_MODE;
+use monitor::settings::flag_on;
+use monitor::settings::set_block_test_frames_on;
+use monitor::settings::set_mms_read_only_on;
+use monitor::settings::set_mms_service_mask_on;
+use monitor::settings::set_retx_schedule_on;
+use monitor::settings::set_sv_max_smp_cnt_gap_on;
+use monitor::settings::set_time_max_forward_jump_s_on;
+use monitor::totals::GOOSE_TOTAL_INSPECTED;
+use monitor::totals::MMS_TOTAL_INSPECTED;
+use monitor::totals::SV_TOTAL_INSPECTED;
+use monitor::totals::TOTAL_ALERTS;
+use monitor::totals::total_on;
+use records::result::InspectResult;
 use script::answers::MonitorReadings;
 use script::answers::put_error;
 use script::answers::put_readings;
+use script::answers::put_result;
 use script::answers::readings_of;
 use script::arguments::flag_at;
 use script::arguments::mac_at;
 use script::arguments::rest_at;
 use script::arguments::u16_at;
 use script::arguments::u32_at;
+use script::arguments::u64_at;
+use script::frames::goose_frame;
+use script::frames::mms_frame;
 use script::frames::schedule;
+use script::frames::sv_frame;
+use script::queries::put_parsing;
+use script::queries::put_query;
 use script::text::put_octets;
 use wire::number::octet_at;
 
-pub fn readings(m: Iec61850Monitor) -> MonitorReadings {
+fn readings(m: &[u64; 1218]) -> MonitorReadings {
     readings_of(
-        m.mms_total_inspected(),
-        m.goose_total_inspected(),
-        m.sv_total_inspected(),
-        m.total_alerts(),
-        m.strict_mode(),
+        total_on(m, MMS_TOTAL_INSPECTED),
+        total_on(m, GOOSE_TOTAL_INSPECTED),
+        total_on(m, SV_TOTAL_INSPECTED),
+        total_on(m, TOTAL_ALERTS),
+        flag_on(m, STRICT_MODE),
     )
 }
 
-// The monitor after a call, and where the call's line ends.
-pub struct Step {
-    pub monitor: Iec61850Monitor,
-    pub end: usize,
-}
-
-// The step of a line that has only the totals still to come.
-fn with_totals(m: Iec61850Monitor, line: &mut [u8], at: usize) -> Step
-    requires { ⌜ at ≤ length (now line) ⌝ }
-    ensures { λ r. ⌜ Counts (r .end) (now (line .exit)) ⌝ }
-{
-    let read = readings(m);
-    let end = put_readings(line, at, read);
-    Step {
-        monitor: m,
-        end: end,
+// One of the calls 0 to 9, which answer nothing; call 3 asks for the totals, which every line has.
+fn settle(m: &mut [u64; 1218], number: u8, call: &[u8]) {
+    match number {
+        0 => new_on(m, false),
+        1 => new_on(m, true),
+        2 => reset_on(m),
+        4 => set_mms_service_mask_on(m, u16_at(call, 1)),
+        5 => set_mms_read_only_on(m, flag_at(call, 1)),
+        6 => set_block_test_frames_on(m, flag_at(call, 1)),
+        7 => set_sv_max_smp_cnt_gap_on(m, u16_at(call, 1)),
+        8 => set_retx_schedule_on(m, schedule(call), flag_at(call, 10)),
+        9 => set_time_max_forward_jump_s_on(m, u32_at(call, 1)),
+        _ => {}
     }
 }
 
-// The monitor after one of the calls 0 to 2 and 4 to 9, which answer nothing else.
-fn settle(m: Iec61850Monitor, number: u8, call: &[u8]) -> Iec61850Monitor {
+// One of the calls 10 to 12. A name is what the call has behind its numbers.
+fn add(m: &mut [u64; 1218], number: u8, call: &[u8]) -> Added {
     match number {
-        0 => Iec61850Monitor::new(),
-        1 => Iec61850Monitor::new_strict(),
-        2 => m.reset(),
-        4 => m.set_mms_service_mask(u16_at(call, 1)),
-        5 => m.set_mms_read_only(flag_at(call, 1)),
-        6 => m.set_block_test_frames(flag_at(call, 1)),
-        7 => m.set_sv_max_smp_cnt_gap(u16_at(call, 1)),
-        8 => m.set_retx_schedule(schedule(call), flag_at(call, 10)),
-        9 => m.set_time_max_forward_jump_s(u32_at(call, 1)),
-        _ => m,
-    }
-}
-
-// One of the calls 0 to 2 and 4 to 9.
-fn make_setting(m: Iec61850Monitor, number: u8, call: &[u8], line: &mut [u8], at: usize) -> Step
-    requires { ⌜ at ≤ length (now line) ⌝ }
-    ensures { λ r. ⌜ Counts (r .end) (now (line .exit)) ⌝ }
-{
-    let monitor = settle(m, number, call);
-    let end = put_octets(line, at, b"done");
-    with_totals(monitor, line, end)
-}
-
-// The monitor after one of the calls 10 to 12, with its answer. A name is what the call has behind its numbers.
-fn configure(m: Iec61850Monitor, number: u8, call: &[u8]) -> Configured {
-    match number {
-        10 => m.add_mms_rule(u16_at(call, 1), flag_at(call, 3), u16_at(call, 4)),
-        11 => m.add_goose_publisher(mac_at(call, 1), rest_at(call, 7)),
-        _ => m.add_sv_publisher(mac_at(call, 1), rest_at(call, 9), u16_at(call, 7)),
+        10 => add_mms_rule_on(m, u16_at(call, 1), flag_at(call, 3), u16_at(call, 4)),
+        11 => add_goose_publisher_on(m, address_of(mac_at(call, 1)), rest_at(call, 7)),
+        _ => add_sv_publisher_on(
+            m,
+            address_of(mac_at(call, 1)),
+            rest_at(call, 9),
+            u16_at(call, 7),
+        ),
     }
 }
 
@@ -93,26 +98,50 @@ fn put_added(line: &mut [u8], at: usize, answer: Added) -> usize
     }
 }
 
-// One of the calls 10 to 12.
-fn make_addition(m: Iec61850Monitor, number: u8, call: &[u8], line: &mut [u8], at: usize) -> Step
-    requires { ⌜ at ≤ length (now line) ⌝ }
-    ensures { λ r. ⌜ Counts (r .end) (now (line .exit)) ⌝ }
-{
-    let configured = configure(m, number, call);
-    let answer = configured.answer;
-    let end = put_added(line, at, answer);
-    let monitor = configured.monitor;
-    with_totals(monitor, line, end)
+// One of the calls 13 to 15.
+fn inspect(m: &mut [u64; 1218], number: u8, call: &[u8]) -> InspectResult {
+    match number {
+        13 => inspect_mms_on(m, mms_frame(call)),
+        14 => inspect_goose_on(m, goose_frame(call)),
+        _ => inspect_sv_on(m, sv_frame(call)),
+    }
 }
 
-// Makes one of the calls that may change the monitor and are no inspections, and puts its line.
-pub fn make_call(m: Iec61850Monitor, call: &[u8], line: &mut [u8], at: usize) -> Step
+// Call 16: time, and the octets of the frame.
+fn inspect_raw(m: &mut [u64; 1218], call: &[u8], line: &mut [u8], at: usize) -> usize
     requires { ⌜ at ≤ length (now line) ⌝ }
-    ensures { λ r. ⌜ Counts (r .end) (now (line .exit)) ⌝ }
+    ensures { λ r. ⌜ Counts r (now (line .exit)) ⌝ }
+{
+    let raw = inspect_raw_sv_on(m, rest_at(call, 9), u64_at(call, 1));
+    let start = put_parsing(call, line, at);
+    let end = put_octets(line, start, b" result ");
+    let result = raw.result;
+    put_result(line, end, result)
+}
+
+// Makes a call, and puts what it answers.
+fn put_answer(m: &mut [u64; 1218], call: &[u8], line: &mut [u8], at: usize) -> usize
+    requires { ⌜ at ≤ length (now line) ⌝ }
+    ensures { λ r. ⌜ Counts r (now (line .exit)) ⌝ }
 {
     let number = octet_at(call, 0);
     match number {
-        10 | 11 | 12 => make_addition(m, number, call, line, at),
-        _ => make_setting(m, number, call, line, at),
+        10 | 11 | 12 => put_added(line, at, add(m, number, call)),
+        13 | 14 | 15 => put_result(line, at, inspect(m, number, call)),
+        16 => inspect_raw(m, call, line, at),
+        17 | 18 | 19 | 20 => put_query(call, line, at),
+        _ => {
+            settle(m, number, call);
+            put_octets(line, at, b"done")
+        }
     }
+}
+
+// Makes a call, and puts its line, which ends with the totals.
+pub fn make_call(m: &mut [u64; 1218], call: &[u8], line: &mut [u8], at: usize) -> usize
+    requires { ⌜ at ≤ length (now line) ⌝ }
+    ensures { λ r. ⌜ Counts r (now (line .exit)) ⌝ }
+{
+    let end = put_answer(m, call, line, at);
+    put_readings(line, end, readings(m))
 }

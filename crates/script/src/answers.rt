@@ -243,22 +243,6 @@ pub fn put_parsed(line: &mut [u8], at: usize, answer: Parsed, frame: SvFrame) ->
     }
 }
 
-// Puts the answer to a raw frame: what was read of it, and the result.
-pub fn put_raw_result(
-    line: &mut [u8],
-    at: usize,
-    answer: Parsed,
-    frame: SvFrame,
-    result: InspectResult,
-) -> usize
-    requires { ⌜ at ≤ length (now line) ⌝ }
-    ensures { λ r. ⌜ Counts r (now (line .exit)) ⌝ }
-{
-    let start = put_parsed(line, at, answer, frame);
-    let middle = put_octets(line, start, b" result ");
-    put_result(line, middle, result)
-}
-
 // Puts a service: its number, and whether it writes.
 pub fn put_service(line: &mut [u8], at: usize, service: MmsServiceType) -> usize
     requires { ⌜ at ≤ length (now line) ⌝ }

@@ -3,7 +3,6 @@ pub mod answers;
 pub mod arguments;
 pub mod frames;
 pub mod input;
-pub mod inspections;
 pub mod line;
 mod names;
 pub mod queries;

@@ -1,11 +1,9 @@
-// The calls of a script that leave the monitor as it is: what they answer, and the totals.
+// The calls of a script that ask no monitor: what they answer.
 ghost use Prim.Native.Nat.{_≤_};
 ghost use lib.ListN.{length};
 ghost use Rattle.io.specs.Counts.{Counts};
-use crate::answers::MonitorReadings;
 use crate::answers::put_bucket;
 use crate::answers::put_parsed;
-use crate::answers::put_readings;
 use crate::answers::put_service;
 use crate::arguments::rest_at;
 use crate::arguments::u16_at;
@@ -14,7 +12,6 @@ use crate::arguments::u64_at;
 use crate::frames::schedule;
 use crate::text::put_flag;
 use crate::text::put_number;
-use crate::text::put_octets;
 use records::bucket::RateBucket;
 use records::schedule::RetxSchedule;
 use records::service::MmsServiceType;
@@ -57,8 +54,8 @@ fn put_intervals(call: &[u8], line: &mut [u8], at: usize) -> usize
     put_interval(line, middle, b" default ", usual, call)
 }
 
-// Call 19: time, and the octets of the frame.
-fn put_parsing(call: &[u8], line: &mut [u8], at: usize) -> usize
+// Calls 16 and 19: what is read from the octets of the frame, which stand behind the time.
+pub fn put_parsing(call: &[u8], line: &mut [u8], at: usize) -> usize
     requires { ⌜ at ≤ length (now line) ⌝ }
     ensures { λ r. ⌜ Counts r (now (line .exit)) ⌝ }
 {
@@ -82,8 +79,8 @@ fn put_bucket_call(call: &[u8], line: &mut [u8], at: usize) -> usize
     put_bucket(line, at, called)
 }
 
-// Puts what one of the calls 3 and 17 to 20 answers.
-fn put_answer(call: &[u8], line: &mut [u8], at: usize) -> usize
+// Puts what one of the calls 17 to 20 answers.
+pub fn put_query(call: &[u8], line: &mut [u8], at: usize) -> usize
     requires { ⌜ at ≤ length (now line) ⌝ }
     ensures { λ r. ⌜ Counts r (now (line .exit)) ⌝ }
 {
@@ -91,16 +88,6 @@ fn put_answer(call: &[u8], line: &mut [u8], at: usize) -> usize
         17 => put_service_call(call, line, at),
         18 => put_intervals(call, line, at),
         19 => put_parsing(call, line, at),
-        20 => put_bucket_call(call, line, at),
-        _ => put_octets(line, at, b"done"),
+        _ => put_bucket_call(call, line, at),
     }
-}
-
-// Puts the line of such a call.
-pub fn put_query(read: MonitorReadings, call: &[u8], line: &mut [u8], at: usize) -> usize
-    requires { ⌜ at ≤ length (now line) ⌝ }
-    ensures { λ r. ⌜ Counts r (now (line .exit)) ⌝ }
-{
-    let end = put_answer(call, line, at);
-    put_readings(line, end, read)
 }

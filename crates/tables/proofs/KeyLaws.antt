@@ -1,6 +1,6 @@
 -- Laws of keys: the words of a name, one at a time, and that keys are equal exactly when their numbers and names are.
 use Prim.Native.Nat.{ℕ, zero, suc, _+_, _*_, _/_, _%_, _^_, _≤_, _<_}
-use mathlib.Core.List.{List, _∷_, head-eq-of-cons-eq, tail-eq-of-cons-eq}
+use mathlib.Core.List.{List, [], _∷_, head-eq-of-cons-eq, tail-eq-of-cons-eq}
 use mathlib.Core.Logic.{_↔_, by-cases}
 use mathlib.Core.Path.{_≡_, refl, sym, ap, _∙_}
 use native.Mathlib.Decide.{decLt}
@@ -128,3 +128,17 @@ legal-name number octets len w a =
 module _ (m n : ℕ) (a b : List ℕ) (i j : ℕ) (wm : m < 2 ^ 64) (wn : n < 2 ^ 64) (oa : OctetArray 64 a) (ob : OctetArray 64 b) where
   pub frame-keys-equal : (keyOf m (nameOf a i) ≡ keyOf n (nameOf b j)) ↔ ((m ≡ n) × (nameOf a i ≡ nameOf b j))
   frame-keys-equal = key-equal m n (nameOf a i) (nameOf b j) (legal-name m a i wm oa) (legal-name n b j wn ob)
+
+-- ---- the key of no name
+
+summed-zero : (number n : ℕ) → number < 2 ^ 64 → summed number (λ k. 0) n ≡ number
+unfolding summed
+summed-zero number zero h = refl
+summed-zero number (suc n) h = let e = summed-zero number n h in omega (arith, e)
+
+none-keyed : (number : ℕ) → number < 2 ^ 64 → number ∷ 0 ∷ replicate 8 0 ≡ keyOf number []
+unfolding keyOf summed nameWord packed tabulate
+none-keyed number h = let e = sym (summed-zero number 8 h) in λ i. e i ∷ 0 ∷ replicate 8 0
+
+pub empty-key : (number : ℕ) (octets : List ℕ) {len : ℕ} → number < 2 ^ 64 → len ≡ 0 → number ∷ 0 ∷ replicate 8 0 ≡ keyOf number (nameOf octets len)
+empty-key number octets h e = none-keyed number h ∙ ap (λ (n : ℕ). keyOf number (nameOf octets n)) (sym e)

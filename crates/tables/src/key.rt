@@ -49,10 +49,14 @@ fn word_at(octets: &[u8; 64], start: usize) -> u64
     )
 }
 
-// The key of a number and of the name that a frame states. The name is padded first: eight whole words are then read without a test.
+// The key of a number and of the name that a frame states. The name is padded first: eight whole words are then read without a test. Most data sets
+// have no name: that key is made at once.
 pub fn name_key(number: u64, octets: [u8; 64], len: u8) -> [u64; 10]
     ensures { λ r. ⌜ r ≡ keyOf number (nameOf octets len) ⌝ }
 {
+    if len == 0 {
+        return [number, 0, 0, 0, 0, 0, 0, 0, 0, 0];
+    }
     let valid = valid_len(len);
     let name = padded(&octets, valid);
     let mut key = [0u64; 10];

@@ -5,4 +5,3 @@ pub mod HeaderLaws
 pub mod SvLaws
 pub mod PointsHold
 pub mod SvLegal
-pub mod SvRecordLaws

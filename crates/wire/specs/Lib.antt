@@ -3,4 +3,3 @@ pub mod Element
 pub mod Header
 pub mod Sv
 pub mod Points
-pub mod SvRecord

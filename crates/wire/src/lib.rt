@@ -4,4 +4,3 @@ pub mod header;
 pub mod number;
 pub mod reader;
 pub mod sv;
-pub mod sv_record;

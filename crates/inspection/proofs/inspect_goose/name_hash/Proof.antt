@@ -15,8 +15,8 @@ valid-len-requires c κs = search needs
 cast-n : tie.Need-cast-n
 cast-n c = search needs
 
-array-share-prefix-go-cb-ref : tie.Need-array-share-prefix-go-cb-ref
-array-share-prefix-go-cb-ref c = search needs
+array-share-prefix-name : tie.Need-array-share-prefix-name
+array-share-prefix-name c = search needs
 
 slice-aggregate-fnv1a-32 : tie.Need-slice-aggregate-fnv1a-32
 slice-aggregate-fnv1a-32 c = sym (length-take-le _ _ (omega (arith, c .before .valid-len .ensures)))
@@ -35,7 +35,7 @@ name-hash-spec =
     (tie.spec
     valid-len-requires
     cast-n
-    array-share-prefix-go-cb-ref
+    array-share-prefix-name
     slice-aggregate-fnv1a-32
     fnv1a-32-requires
     returns)

@@ -10,8 +10,4 @@ returns-2 : tie.Need-returns-2
 returns-2 c = rw (ne-eqb _ _ (c .if1 .left))
 
 pub releases-spec : {M : Type 1} → statement M
-releases-spec =
-    tie.close
-    (tie.spec
-    returns
-    returns-2)
+releases-spec = tie.close (tie.spec returns returns-2)

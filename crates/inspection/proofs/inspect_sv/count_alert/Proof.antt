@@ -8,26 +8,11 @@ use Rattle.inspection.specs.InspectSv.{countFindings}
 use Rattle.inspection.proofs.inspect_sv.count_alert.Statement.{statement}
 use Rattle.inspection.proofs.inspect_sv.count_alert.Tie as tie
 
-enum-told : tie.Need-enum-told
-enum-told c = search needs
-
-enum-told-2 : tie.Need-enum-told-2
-enum-told-2 c = search needs
-
-enum-known-outcome : tie.Need-enum-known-outcome
-enum-known-outcome c = search needs
-
 returns : tie.Need-returns
 unfolding countFindings
 returns c =
     rw (c .before .before .before .outcome .given .1)
     (sym (cond-yes _ _ (and-yes (lt-ltb _ _ (c .before .if1 .taken)) (c .if2 .taken))))
-
-enum-told-3 : tie.Need-enum-told-3
-enum-told-3 c = search needs
-
-enum-told-4 : tie.Need-enum-told-4
-enum-told-4 c = search needs
 
 returns-2 : tie.Need-returns-2
 unfolding countFindings
@@ -56,12 +41,13 @@ pub count-alert-spec : {M : Type 1} → statement M
 count-alert-spec =
     tie.close
     (tie.spec
-    enum-told
-    enum-told-2
-    enum-known-outcome
+    (λ c. search needs)
+    (λ c. search needs)
+    (λ c. search needs)
+    (λ c. search needs)
     returns
-    enum-told-3
-    enum-told-4
+    (λ c. search needs)
+    (λ c. search needs)
     returns-2
     returns-3
     returns-4

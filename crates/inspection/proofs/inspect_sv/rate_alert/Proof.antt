@@ -3,11 +3,9 @@ use borrow.Author.Tests.{eq-eqb, ne-eqb}
 use Rattle.records.proofs.Booleans.{and-false}
 use Rattle.inspection.specs.InspectSv.{rateFindings}
 use Rattle.inspection.proofs.StageLaws.{nonzero}
+use borrow.Author.Needs.{needs}
 use Rattle.inspection.proofs.inspect_sv.rate_alert.Statement.{statement}
 use Rattle.inspection.proofs.inspect_sv.rate_alert.Tie as tie
-
-returns : tie.Need-returns
-returns c = rw (c .if1 .taken)
 
 returns-2 : tie.Need-returns-2
 unfolding rateFindings
@@ -29,4 +27,4 @@ returns-5 c =
     rw (f .before .if1 .left, ne-eqb _ _ (c .if4 .left), nonzero _ (f .if2 .left), nonzero _ (r .if3 .left))
 
 pub rate-alert-spec : {M : Type 1} → statement M
-rate-alert-spec = tie.close (tie.spec returns returns-2 returns-3 returns-4 returns-5)
+rate-alert-spec = tie.close (tie.spec (λ c. search needs) returns-2 returns-3 returns-4 returns-5)

@@ -1,6 +1,6 @@
 -- `note_alert` meets its contract.
 use borrow.Author.Needs.{needs}
-use Rattle.inspection.proofs.StageLaws.{alert-put, alert-left}
+use Rattle.inspection.proofs.AlertLaws.{alert-put, alert-left}
 use Rattle.inspection.proofs.report.note_alert.Statement.{statement}
 use Rattle.inspection.proofs.report.note_alert.Tie as tie
 

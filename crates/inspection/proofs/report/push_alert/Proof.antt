@@ -1,7 +1,7 @@
 -- `push_alert` meets its contract.
 use mathlib.Core.Path.{_∙_}
 use borrow.Author.Needs.{needs}
-use Rattle.inspection.proofs.StageLaws.{refusal-added, notice-added}
+use Rattle.inspection.proofs.AlertLaws.{refusal-added, notice-added}
 use Rattle.inspection.proofs.report.push_alert.Statement.{statement}
 use Rattle.inspection.proofs.report.push_alert.Tie as tie
 

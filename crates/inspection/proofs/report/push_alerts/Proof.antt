@@ -1,6 +1,6 @@
 -- `push_alerts` meets its contract.
 use borrow.Author.Needs.{needs}
-use Rattle.inspection.proofs.StageLaws.{three-pushed}
+use Rattle.inspection.proofs.AlertLaws.{three-pushed}
 use Rattle.inspection.proofs.report.push_alerts.Statement.{statement}
 use Rattle.inspection.proofs.report.push_alerts.Tie as tie
 

@@ -17,4 +17,13 @@ returns c =
     (flagged .set-setting .ensures) (schedule .default-8-1 .ensures) (scheduled .set-retx-schedule-on .ensures) (c .reset-on .ensures)
 
 pub new-on-spec : {M : Type 1} → statement M
-new-on-spec = tie.close (tie.spec (λ c κs. search needs) (λ c κs. search needs) (λ c κs. search needs) (λ c κs. search needs) (λ c κs. search needs) (λ c κs. search needs) returns)
+new-on-spec =
+    tie.close
+    (tie.spec
+    (λ c κs. search needs)
+    (λ c κs. search needs)
+    (λ c κs. search needs)
+    (λ c κs. search needs)
+    (λ c κs. search needs)
+    (λ c κs. search needs)
+    returns)

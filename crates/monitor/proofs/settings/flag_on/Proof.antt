@@ -1,5 +1,4 @@
 -- `flag_on` meets its contract.
-use mathlib.Core.Path.{ap}
 use borrow.Author.Needs.{needs}
 use Rattle.monitor.proofs.settings.flag_on.Statement.{statement}
 use Rattle.monitor.proofs.settings.flag_on.Tie as tie

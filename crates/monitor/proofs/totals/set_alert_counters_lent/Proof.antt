@@ -17,4 +17,12 @@ returns c =
     ∙ ap (withTotals (monitorOf (s .args .m .now))) (k .store-counters .ensures)
 
 pub set-alert-counters-lent-spec : {M : Type 1} → statement M
-set-alert-counters-lent-spec = tie.close (tie.spec (λ c. search needs) (λ c. search needs) (λ c. search needs) (λ c κs. search needs) (λ c. search needs) returns)
+set-alert-counters-lent-spec =
+    tie.close
+    (tie.spec
+    (λ c. search needs)
+    (λ c. search needs)
+    (λ c. search needs)
+    (λ c κs. search needs)
+    (λ c. search needs)
+    returns)

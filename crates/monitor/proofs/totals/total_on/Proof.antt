@@ -1,6 +1,5 @@
 -- `total_on` meets its contract.
 use mathlib.Core.Path.{sym}
-use native.Mathlib.Omega.{arith}
 use Rattle.monitor.specs.Monitor.{monitorOf}
 use Rattle.monitor.proofs.PartLaws.{part-word}
 use borrow.Author.Needs.{needs}

@@ -7,7 +7,7 @@ use borrow.Author.Needs.{needs}
 use lib.ListN.{length, replicate}
 use Rattle.records.proofs.NameLaws.{overwritten-more}
 use Rattle.records.specs.Name.{octetAt, overwritten}
-use Rattle.tables.proofs.KeyLaws.{summed-more, key-of-frame}
+use Rattle.tables.proofs.KeyLaws.{summed-more, key-of-frame, empty-key}
 use Rattle.tables.specs.Key.{packed, summed}
 use Rattle.tables.proofs.key.name_key.Statement.{statement}
 use Rattle.tables.proofs.key.name_key.Tie as tie
@@ -34,12 +34,15 @@ loop-again c =
     (omega arith, summed-more _ _ (l .k) (l .inv .1) w (c .wrapping-add-u64 .ensures), overwritten-more _ _ 2 (l .k) (l .inv .2) (omega arith) w)
 
 returns : tie.Need-returns Inv-loop μ-loop
-returns c =
+returns c = empty-key _ _ (omega arith) (c .if1 .taken)
+
+returns-2 : tie.Need-returns-2 Inv-loop μ-loop
+returns-2 c =
     let l = c .before .before .loop in
     let p = c .before .before .before in
     let v = p .before .before in
     let e : l .k ≡ 8 = omega arith in
-    let size : length (v .before .args .t2) ≡ 64 = search needs in
+    let size : length (v .before .before .args .t2) ≡ 64 = search needs in
     rw (c .wide .ensures) (key-of-frame _ _ size _ (v .valid-len .ensures) (p .padded .ensures) (rw e at (l .inv .1)) (rw e at (l .inv .2)))
 
 pub name-key-spec : {M : Type 1} → statement M
@@ -48,6 +51,7 @@ name-key-spec =
     (tie.spec
     Inv-loop
     μ-loop
+    returns
     (λ c κs. search needs)
     (λ c κs. search needs)
     loop-holds
@@ -63,4 +67,4 @@ name-key-spec =
     (λ c. omega arith)
     (λ c κs. search needs)
     (λ c. omega arith)
-    returns)
+    returns-2)

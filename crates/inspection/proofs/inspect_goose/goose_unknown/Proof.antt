@@ -1,0 +1,32 @@
+-- `goose_unknown` meets its contract.
+use borrow.Author.Needs.{needs}
+use Rattle.records.specs.declared.search.Found.the-variants.{At, Nothing}
+use Rattle.monitor.specs.Monitor.{monitorOf}
+use Rattle.inspection.proofs.StageLaws.{unknown-to-none, unknown-unless-found}
+use Rattle.inspection.proofs.inspect_goose.goose_unknown.Statement.{statement}
+use Rattle.inspection.proofs.inspect_goose.goose_unknown.Tie as tie
+
+returns : tie.Need-returns
+returns c =
+    let k = c .before in
+    let a = k .before .args in
+    unknown-to-none (monitorOf (a .m .now)) (a .address) (a .publisher .now) (k .goose-publisher-count-on .ensures) (c .if1 .taken)
+
+returns-2 : tie.Need-returns-2
+returns-2 c =
+    let p = c .before .before in
+    let k = p .before .before in
+    let a = k .before .args in
+    unknown-unless-found (monitorOf (a .m .now)) (a .address) (a .publisher .now) (k .goose-publisher-count-on .ensures) (At _) (p .before .if1 .left)
+    (p .goose-publisher-on .ensures) (c .enum-told .given .1)
+
+returns-3 : tie.Need-returns-3
+returns-3 c =
+    let p = c .before .before in
+    let k = p .before .before in
+    let a = k .before .args in
+    unknown-unless-found (monitorOf (a .m .now)) (a .address) (a .publisher .now) (k .goose-publisher-count-on .ensures) Nothing (p .before .if1 .left)
+    (p .goose-publisher-on .ensures) (c .enum-told2 .given .1)
+
+pub goose-unknown-spec : {M : Type 1} → statement M
+goose-unknown-spec = tie.close (tie.spec (λ c κs. search needs) returns (λ c κs. search needs) (λ c. search needs) (λ c. search needs) returns-2 returns-3)

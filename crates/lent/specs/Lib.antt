@@ -1,0 +1,4 @@
+pub mod Octets
+pub mod Sv
+pub mod Goose
+pub mod Mms

@@ -1,0 +1,66 @@
+// An SV frame as the 160 octets of its struct.
+ghost use mathlib.Core.Path.{_≡_};
+ghost use lib.ListN.{length};
+ghost use Rattle.monitor.specs.Monitor.{monitorOf};
+ghost use Rattle.inspection.specs.InspectSv.{svRead, checkedSv, inspectSv};
+ghost use Rattle.inspection.specs.Report.{alertsOf, withVerdict};
+ghost use Rattle.lent.specs.Sv.{svFrameOf};
+use crate::octets::mac_at;
+use crate::octets::name_at;
+use crate::octets::u16_at;
+use crate::octets::u32_at;
+use checks::keys::plain_key;
+use checks::keys::reservation_key;
+use inspection::address::address_of;
+use inspection::inspect_sv::SvNumbers;
+use inspection::inspect_sv::sv_checks_on;
+use inspection::report::CheckAlerts;
+use inspection::report::verdict_on;
+use monitor::totals::SV_TOTAL_INSPECTED;
+use monitor::totals::count_frame_on;
+use wire::number::octet_at;
+
+// What the checks read of a frame beside its names.
+fn sv_numbers(o: &[u8]) -> SvNumbers
+    requires { ⌜ length (now o) ≡ 160 ⌝ }
+    ensures { λ r. ⌜ r ≡ svRead (svFrameOf (now (o .entry))) .numbers ⌝ }
+{
+    SvNumbers {
+        address: address_of(mac_at(o, 0)),
+        seconds: u32_at(o, 152),
+        fraction: u32_at(o, 156),
+        smp_cnt: u16_at(o, 72),
+        smp_rate: u16_at(o, 74),
+    }
+}
+
+// Counts and checks a frame.
+fn check_sv_lent(m: &mut [u64; 1218], o: &[u8]) -> CheckAlerts
+    requires { ⌜ length (now o) ≡ 160 ⌝ }
+    ensures { λ r. ⌜ record { monitor = monitorOf (now (m .exit)); answer = alertsOf r }
+        ≡ checkedSv (monitorOf (now (m .entry))) (svFrameOf (now (o .entry))) ⌝ }
+{
+    let svid = plain_key(name_at(o, 7), octet_at(o, 6));
+    let dataset = reservation_key(false, name_at(o, 77), octet_at(o, 76));
+    let n = sv_numbers(o);
+    count_frame_on(m, SV_TOTAL_INSPECTED);
+    sv_checks_on(m, &svid, &dataset, n)
+}
+
+// Inspects a frame in a part of a slice, and answers the verdict: for batches.
+pub fn sv_verdict_part(m: &mut [u64; 1218], o: &[u8]) -> [u8; 8]
+    requires { ⌜ length (now o) ≡ 160 ⌝ }
+    ensures { λ r. ⌜ record { monitor = monitorOf (now (m .exit)); answer = r }
+        ≡ withVerdict (inspectSv (monitorOf (now (m .entry))) (svFrameOf (now (o .entry)))) ⌝ }
+{
+    let alerts = check_sv_lent(m, o);
+    verdict_on(m, alerts)
+}
+
+// Inspects a frame, and answers the verdict.
+pub fn sv_verdict_lent(m: &mut [u64; 1218], octets: &[u8; 160]) -> [u8; 8]
+    ensures { λ r. ⌜ record { monitor = monitorOf (now (m .exit)); answer = r }
+        ≡ withVerdict (inspectSv (monitorOf (now (m .entry))) (svFrameOf (now (octets .entry)))) ⌝ }
+{
+    sv_verdict_part(m, octets)
+}
