@@ -1,12 +1,17 @@
 -- Laws of the parts of the words: a part that is lent and comes back changed is an update of its field.
-use Prim.Native.Nat.{ℕ, _+_, _-_, _≤_, _<_}
-use mathlib.Core.List.{List, _++_}
+use Prim.Native.Nat.{ℕ, zero, suc, _+_, _-_, _≤_, _<_}
+use mathlib.Core.Bool.{cond}
+use mathlib.Core.List.{List, [], _∷_, _++_}
 use mathlib.Core.Path.{_≡_, sym, ap, _∙_}
+use native.Mathlib.Decide.{ℕ-discrete, decLt}
+use native.Mathlib.Nat.{not-suc-le-zero}
 use native.Mathlib.Omega.{arith}
+use borrow.Author.Tests.{eq-eqb, ne-eqb}
 use borrow.Rule.Slice.PartMut.{putMid}
+use lib.Dec.{eqb}
 use lib.ListN.{length, take, drop, getD, take-append-drop, length-drop}
 use lib.Seq.{take-append-le, drop-append-le, take-at, drop-at, drop-drop, getD-take, getD-drop, length-take-le}
-use Rattle.monitor.specs.Monitor.{Monitor, monitorOf, withSettings, withTotals, withMmsRules, withGoosePublishers}
+use Rattle.monitor.specs.Monitor.{Monitor, monitorOf, withPart, withSettings, withTotals, withMmsRules, withGoosePublishers}
 use Rattle.monitor.specs.Monitor.{withSvPublishers, withRateBuckets, withGooseSeq, withSvSeq, withTimeTrackers, withCbReservations}
 use Rattle.monitor.specs.Parts.{after}
 
@@ -41,195 +46,87 @@ part-length l a n h = length-take-le n (drop a l) (omega (arith, length-drop a l
 pub part-word : (l : List ℕ) (a n i : ℕ) → i < n → getD (take n (drop a l)) i 0 ≡ getD l (a + i) 0
 part-word l a n i h = getD-take n (drop a l) i 0 h ∙ getD-drop a l i 0
 
--- a part lent and back, in each place
+-- ---- a part lent and back
+
+-- the sizes of the parts, and where each begins
+abbrev sizeOf : ℕ → ℕ
+sizeOf k = getD (10 ∷ 5 ∷ 49 ∷ 177 ∷ 193 ∷ 80 ∷ 224 ∷ 192 ∷ 64 ∷ 224 ∷ []) k 0
+
+abbrev firstOf : ℕ → ℕ
+firstOf zero = 0
+firstOf (suc k) = firstOf k + sizeOf k
+
+-- a part ends before the next begins
+in-order : (j k : ℕ) → j < k → firstOf j + sizeOf j ≤ firstOf k
+in-order j zero h = absurd (not-suc-le-zero h)
+in-order j (suc k) h = go (decLt j k) (in-order j k)
+  where
+    go : Dec (j < k) → (j < k → firstOf j + sizeOf j ≤ firstOf k) → firstOf j + sizeOf j ≤ firstOf k + sizeOf k
+    go (yes l) before = let r = before l in omega (arith, r)
+    go (no l) before = let e : j ≡ k = omega arith in rw e (omega arith)
+
+module _ (l t : List ℕ) (z : length l ≡ 1218) (k : ℕ) (h : k < 10) (y : length t ≡ sizeOf k) where
+  -- a part of the words after part k is replaced
+  part-after :
+      (j : ℕ) → take (sizeOf j) (drop (firstOf j) (putMid (firstOf k) (sizeOf k) l t)) ≡ cond (eqb k j) t (take (sizeOf j) (drop (firstOf j) l))
+  part-after j = go (ℕ-discrete k j) (decLt j k)
+    where
+      inside : firstOf k + sizeOf k ≤ length l
+      inside = let r = in-order k 10 h in omega (arith, r)
+
+      go : Dec (k ≡ j) → Dec (j < k)
+          → take (sizeOf j) (drop (firstOf j) (putMid (firstOf k) (sizeOf k) l t)) ≡ cond (eqb k j) t (take (sizeOf j) (drop (firstOf j) l))
+      go (yes e) d = rw (eq-eqb k j e, ← e) (mid-here l t (firstOf k) (sizeOf k) inside y)
+      go (no n) (yes d) = rw (ne-eqb k j n) (mid-before l t (firstOf k) (sizeOf k) inside y (firstOf j) (sizeOf j) (in-order j k d))
+      go (no n) (no d) = rw (ne-eqb k j n) (mid-behind l t (firstOf k) (sizeOf k) inside y (firstOf j) (sizeOf j) (in-order k j (omega (arith, n, d))))
+
+  part-back : monitorOf (putMid (firstOf k) (sizeOf k) l t) ≡ withPart k (monitorOf l) t
+  unfolding monitorOf
+  part-back =
+      λ i. record {
+        settings = part-after 0 i;
+        totals = part-after 1 i;
+        «mms_rules» = part-after 2 i;
+        «goose_publishers» = part-after 3 i;
+        «sv_publishers» = part-after 4 i;
+        «rate_buckets» = part-after 5 i;
+        «goose_seq» = part-after 6 i;
+        «sv_seq» = part-after 7 i;
+        «time_trackers» = part-after 8 i;
+        «cb_reservations» = part-after 9 i;
+      }
+
+-- each by its name
 module _ (l t : List ℕ) (z : length l ≡ 1218) where
   pub settings-back : length t ≡ 10 → monitorOf (putMid 0 10 l t) ≡ withSettings (monitorOf l) t
-  unfolding monitorOf
-  settings-back y =
-      let here = mid-here l t 0 10 (omega arith) y in
-      let behind = mid-behind l t 0 10 (omega arith) y in
-      λ i. record {
-        settings = here i;
-        totals = behind 10 5 (omega arith) i;
-        «mms_rules» = behind 15 49 (omega arith) i;
-        «goose_publishers» = behind 64 177 (omega arith) i;
-        «sv_publishers» = behind 241 193 (omega arith) i;
-        «rate_buckets» = behind 434 80 (omega arith) i;
-        «goose_seq» = behind 514 224 (omega arith) i;
-        «sv_seq» = behind 738 192 (omega arith) i;
-        «time_trackers» = behind 930 64 (omega arith) i;
-        «cb_reservations» = behind 994 224 (omega arith) i;
-      }
+  settings-back = part-back l t z 0 (omega arith)
 
   pub totals-back : length t ≡ 5 → monitorOf (putMid 10 5 l t) ≡ withTotals (monitorOf l) t
-  unfolding monitorOf
-  totals-back y =
-      let here = mid-here l t 10 5 (omega arith) y in
-      let behind = mid-behind l t 10 5 (omega arith) y in
-      let before = mid-before l t 10 5 (omega arith) y in
-      λ i. record {
-        settings = before 0 10 (omega arith) i;
-        totals = here i;
-        «mms_rules» = behind 15 49 (omega arith) i;
-        «goose_publishers» = behind 64 177 (omega arith) i;
-        «sv_publishers» = behind 241 193 (omega arith) i;
-        «rate_buckets» = behind 434 80 (omega arith) i;
-        «goose_seq» = behind 514 224 (omega arith) i;
-        «sv_seq» = behind 738 192 (omega arith) i;
-        «time_trackers» = behind 930 64 (omega arith) i;
-        «cb_reservations» = behind 994 224 (omega arith) i;
-      }
+  totals-back = part-back l t z 1 (omega arith)
 
   pub mms-rules-back : length t ≡ 49 → monitorOf (putMid 15 49 l t) ≡ withMmsRules (monitorOf l) t
-  unfolding monitorOf
-  mms-rules-back y =
-      let here = mid-here l t 15 49 (omega arith) y in
-      let behind = mid-behind l t 15 49 (omega arith) y in
-      let before = mid-before l t 15 49 (omega arith) y in
-      λ i. record {
-        settings = before 0 10 (omega arith) i;
-        totals = before 10 5 (omega arith) i;
-        «mms_rules» = here i;
-        «goose_publishers» = behind 64 177 (omega arith) i;
-        «sv_publishers» = behind 241 193 (omega arith) i;
-        «rate_buckets» = behind 434 80 (omega arith) i;
-        «goose_seq» = behind 514 224 (omega arith) i;
-        «sv_seq» = behind 738 192 (omega arith) i;
-        «time_trackers» = behind 930 64 (omega arith) i;
-        «cb_reservations» = behind 994 224 (omega arith) i;
-      }
+  mms-rules-back = part-back l t z 2 (omega arith)
 
   pub goose-publishers-back : length t ≡ 177 → monitorOf (putMid 64 177 l t) ≡ withGoosePublishers (monitorOf l) t
-  unfolding monitorOf
-  goose-publishers-back y =
-      let here = mid-here l t 64 177 (omega arith) y in
-      let behind = mid-behind l t 64 177 (omega arith) y in
-      let before = mid-before l t 64 177 (omega arith) y in
-      λ i. record {
-        settings = before 0 10 (omega arith) i;
-        totals = before 10 5 (omega arith) i;
-        «mms_rules» = before 15 49 (omega arith) i;
-        «goose_publishers» = here i;
-        «sv_publishers» = behind 241 193 (omega arith) i;
-        «rate_buckets» = behind 434 80 (omega arith) i;
-        «goose_seq» = behind 514 224 (omega arith) i;
-        «sv_seq» = behind 738 192 (omega arith) i;
-        «time_trackers» = behind 930 64 (omega arith) i;
-        «cb_reservations» = behind 994 224 (omega arith) i;
-      }
+  goose-publishers-back = part-back l t z 3 (omega arith)
 
   pub sv-publishers-back : length t ≡ 193 → monitorOf (putMid 241 193 l t) ≡ withSvPublishers (monitorOf l) t
-  unfolding monitorOf
-  sv-publishers-back y =
-      let here = mid-here l t 241 193 (omega arith) y in
-      let behind = mid-behind l t 241 193 (omega arith) y in
-      let before = mid-before l t 241 193 (omega arith) y in
-      λ i. record {
-        settings = before 0 10 (omega arith) i;
-        totals = before 10 5 (omega arith) i;
-        «mms_rules» = before 15 49 (omega arith) i;
-        «goose_publishers» = before 64 177 (omega arith) i;
-        «sv_publishers» = here i;
-        «rate_buckets» = behind 434 80 (omega arith) i;
-        «goose_seq» = behind 514 224 (omega arith) i;
-        «sv_seq» = behind 738 192 (omega arith) i;
-        «time_trackers» = behind 930 64 (omega arith) i;
-        «cb_reservations» = behind 994 224 (omega arith) i;
-      }
+  sv-publishers-back = part-back l t z 4 (omega arith)
 
   pub rate-buckets-back : length t ≡ 80 → monitorOf (putMid 434 80 l t) ≡ withRateBuckets (monitorOf l) t
-  unfolding monitorOf
-  rate-buckets-back y =
-      let here = mid-here l t 434 80 (omega arith) y in
-      let behind = mid-behind l t 434 80 (omega arith) y in
-      let before = mid-before l t 434 80 (omega arith) y in
-      λ i. record {
-        settings = before 0 10 (omega arith) i;
-        totals = before 10 5 (omega arith) i;
-        «mms_rules» = before 15 49 (omega arith) i;
-        «goose_publishers» = before 64 177 (omega arith) i;
-        «sv_publishers» = before 241 193 (omega arith) i;
-        «rate_buckets» = here i;
-        «goose_seq» = behind 514 224 (omega arith) i;
-        «sv_seq» = behind 738 192 (omega arith) i;
-        «time_trackers» = behind 930 64 (omega arith) i;
-        «cb_reservations» = behind 994 224 (omega arith) i;
-      }
+  rate-buckets-back = part-back l t z 5 (omega arith)
 
   pub goose-seq-back : length t ≡ 224 → monitorOf (putMid 514 224 l t) ≡ withGooseSeq (monitorOf l) t
-  unfolding monitorOf
-  goose-seq-back y =
-      let here = mid-here l t 514 224 (omega arith) y in
-      let behind = mid-behind l t 514 224 (omega arith) y in
-      let before = mid-before l t 514 224 (omega arith) y in
-      λ i. record {
-        settings = before 0 10 (omega arith) i;
-        totals = before 10 5 (omega arith) i;
-        «mms_rules» = before 15 49 (omega arith) i;
-        «goose_publishers» = before 64 177 (omega arith) i;
-        «sv_publishers» = before 241 193 (omega arith) i;
-        «rate_buckets» = before 434 80 (omega arith) i;
-        «goose_seq» = here i;
-        «sv_seq» = behind 738 192 (omega arith) i;
-        «time_trackers» = behind 930 64 (omega arith) i;
-        «cb_reservations» = behind 994 224 (omega arith) i;
-      }
+  goose-seq-back = part-back l t z 6 (omega arith)
 
   pub sv-seq-back : length t ≡ 192 → monitorOf (putMid 738 192 l t) ≡ withSvSeq (monitorOf l) t
-  unfolding monitorOf
-  sv-seq-back y =
-      let here = mid-here l t 738 192 (omega arith) y in
-      let behind = mid-behind l t 738 192 (omega arith) y in
-      let before = mid-before l t 738 192 (omega arith) y in
-      λ i. record {
-        settings = before 0 10 (omega arith) i;
-        totals = before 10 5 (omega arith) i;
-        «mms_rules» = before 15 49 (omega arith) i;
-        «goose_publishers» = before 64 177 (omega arith) i;
-        «sv_publishers» = before 241 193 (omega arith) i;
-        «rate_buckets» = before 434 80 (omega arith) i;
-        «goose_seq» = before 514 224 (omega arith) i;
-        «sv_seq» = here i;
-        «time_trackers» = behind 930 64 (omega arith) i;
-        «cb_reservations» = behind 994 224 (omega arith) i;
-      }
+  sv-seq-back = part-back l t z 7 (omega arith)
 
   pub time-trackers-back : length t ≡ 64 → monitorOf (putMid 930 64 l t) ≡ withTimeTrackers (monitorOf l) t
-  unfolding monitorOf
-  time-trackers-back y =
-      let here = mid-here l t 930 64 (omega arith) y in
-      let behind = mid-behind l t 930 64 (omega arith) y in
-      let before = mid-before l t 930 64 (omega arith) y in
-      λ i. record {
-        settings = before 0 10 (omega arith) i;
-        totals = before 10 5 (omega arith) i;
-        «mms_rules» = before 15 49 (omega arith) i;
-        «goose_publishers» = before 64 177 (omega arith) i;
-        «sv_publishers» = before 241 193 (omega arith) i;
-        «rate_buckets» = before 434 80 (omega arith) i;
-        «goose_seq» = before 514 224 (omega arith) i;
-        «sv_seq» = before 738 192 (omega arith) i;
-        «time_trackers» = here i;
-        «cb_reservations» = behind 994 224 (omega arith) i;
-      }
+  time-trackers-back = part-back l t z 8 (omega arith)
 
   pub cb-reservations-back : length t ≡ 224 → monitorOf (putMid 994 224 l t) ≡ withCbReservations (monitorOf l) t
-  unfolding monitorOf
-  cb-reservations-back y =
-      let here = mid-here l t 994 224 (omega arith) y in
-      let before = mid-before l t 994 224 (omega arith) y in
-      λ i. record {
-        settings = before 0 10 (omega arith) i;
-        totals = before 10 5 (omega arith) i;
-        «mms_rules» = before 15 49 (omega arith) i;
-        «goose_publishers» = before 64 177 (omega arith) i;
-        «sv_publishers» = before 241 193 (omega arith) i;
-        «rate_buckets» = before 434 80 (omega arith) i;
-        «goose_seq» = before 514 224 (omega arith) i;
-        «sv_seq» = before 738 192 (omega arith) i;
-        «time_trackers» = before 930 64 (omega arith) i;
-        «cb_reservations» = here i;
-      }
+  cb-reservations-back = part-back l t z 9 (omega arith)
 
 -- a check of a part that is lent, and comes back
 pub lent : {A C : Type 0} (withPart : List ℕ → Monitor) (part : C → List ℕ) (answer : C → A) {m : Monitor} {c c′ : C} → m ≡ withPart (part c) → c ≡ c′

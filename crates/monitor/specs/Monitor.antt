@@ -1,7 +1,9 @@
 -- The monitor as an array of 1218 words, and as the record of its parts, of which all definitions speak.
 use Prim.Native.Nat.{ℕ}
+use mathlib.Core.Bool.{cond}
 use mathlib.Core.List.{List, _++_}
 use mathlib.Core.Path.{_≡_}
+use lib.Dec.{eqb}
 use lib.ListN.{length, take, drop}
 
 -- settings; totals (01, "Alert and result"): MMS, GOOSE and SV frames inspected, the next alert's number, alerts; and, of crate checks, the rule lists,
@@ -53,154 +55,50 @@ pub record Sized (m : Monitor) : Type 0 where
   pub «time_trackers» : length (m .«time_trackers») ≡ 64
   pub «cb_reservations» : length (m .«cb_reservations») ≡ 224
 
--- a monitor with one part replaced
+-- a monitor with one part replaced; the parts are numbered from 0 in their order
+abbrev pub withPart : ℕ → Monitor → List ℕ → Monitor
+withPart k m t =
+    record {
+      settings = cond (eqb k 0) t (m .settings);
+      totals = cond (eqb k 1) t (m .totals);
+      «mms_rules» = cond (eqb k 2) t (m .«mms_rules»);
+      «goose_publishers» = cond (eqb k 3) t (m .«goose_publishers»);
+      «sv_publishers» = cond (eqb k 4) t (m .«sv_publishers»);
+      «rate_buckets» = cond (eqb k 5) t (m .«rate_buckets»);
+      «goose_seq» = cond (eqb k 6) t (m .«goose_seq»);
+      «sv_seq» = cond (eqb k 7) t (m .«sv_seq»);
+      «time_trackers» = cond (eqb k 8) t (m .«time_trackers»);
+      «cb_reservations» = cond (eqb k 9) t (m .«cb_reservations»);
+    }
+
+-- each by its name
 module _ (m : Monitor) (t : List ℕ) where
   abbrev pub withSettings : Monitor
-  withSettings =
-      record {
-        settings = t;
-        totals = m .totals;
-        «mms_rules» = m .«mms_rules»;
-        «goose_publishers» = m .«goose_publishers»;
-        «sv_publishers» = m .«sv_publishers»;
-        «rate_buckets» = m .«rate_buckets»;
-        «goose_seq» = m .«goose_seq»;
-        «sv_seq» = m .«sv_seq»;
-        «time_trackers» = m .«time_trackers»;
-        «cb_reservations» = m .«cb_reservations»;
-      }
+  withSettings = withPart 0 m t
 
   abbrev pub withTotals : Monitor
-  withTotals =
-      record {
-        settings = m .settings;
-        totals = t;
-        «mms_rules» = m .«mms_rules»;
-        «goose_publishers» = m .«goose_publishers»;
-        «sv_publishers» = m .«sv_publishers»;
-        «rate_buckets» = m .«rate_buckets»;
-        «goose_seq» = m .«goose_seq»;
-        «sv_seq» = m .«sv_seq»;
-        «time_trackers» = m .«time_trackers»;
-        «cb_reservations» = m .«cb_reservations»;
-      }
+  withTotals = withPart 1 m t
 
   abbrev pub withMmsRules : Monitor
-  withMmsRules =
-      record {
-        settings = m .settings;
-        totals = m .totals;
-        «mms_rules» = t;
-        «goose_publishers» = m .«goose_publishers»;
-        «sv_publishers» = m .«sv_publishers»;
-        «rate_buckets» = m .«rate_buckets»;
-        «goose_seq» = m .«goose_seq»;
-        «sv_seq» = m .«sv_seq»;
-        «time_trackers» = m .«time_trackers»;
-        «cb_reservations» = m .«cb_reservations»;
-      }
+  withMmsRules = withPart 2 m t
 
   abbrev pub withGoosePublishers : Monitor
-  withGoosePublishers =
-      record {
-        settings = m .settings;
-        totals = m .totals;
-        «mms_rules» = m .«mms_rules»;
-        «goose_publishers» = t;
-        «sv_publishers» = m .«sv_publishers»;
-        «rate_buckets» = m .«rate_buckets»;
-        «goose_seq» = m .«goose_seq»;
-        «sv_seq» = m .«sv_seq»;
-        «time_trackers» = m .«time_trackers»;
-        «cb_reservations» = m .«cb_reservations»;
-      }
+  withGoosePublishers = withPart 3 m t
 
   abbrev pub withSvPublishers : Monitor
-  withSvPublishers =
-      record {
-        settings = m .settings;
-        totals = m .totals;
-        «mms_rules» = m .«mms_rules»;
-        «goose_publishers» = m .«goose_publishers»;
-        «sv_publishers» = t;
-        «rate_buckets» = m .«rate_buckets»;
-        «goose_seq» = m .«goose_seq»;
-        «sv_seq» = m .«sv_seq»;
-        «time_trackers» = m .«time_trackers»;
-        «cb_reservations» = m .«cb_reservations»;
-      }
+  withSvPublishers = withPart 4 m t
 
   abbrev pub withRateBuckets : Monitor
-  withRateBuckets =
-      record {
-        settings = m .settings;
-        totals = m .totals;
-        «mms_rules» = m .«mms_rules»;
-        «goose_publishers» = m .«goose_publishers»;
-        «sv_publishers» = m .«sv_publishers»;
-        «rate_buckets» = t;
-        «goose_seq» = m .«goose_seq»;
-        «sv_seq» = m .«sv_seq»;
-        «time_trackers» = m .«time_trackers»;
-        «cb_reservations» = m .«cb_reservations»;
-      }
+  withRateBuckets = withPart 5 m t
 
   abbrev pub withGooseSeq : Monitor
-  withGooseSeq =
-      record {
-        settings = m .settings;
-        totals = m .totals;
-        «mms_rules» = m .«mms_rules»;
-        «goose_publishers» = m .«goose_publishers»;
-        «sv_publishers» = m .«sv_publishers»;
-        «rate_buckets» = m .«rate_buckets»;
-        «goose_seq» = t;
-        «sv_seq» = m .«sv_seq»;
-        «time_trackers» = m .«time_trackers»;
-        «cb_reservations» = m .«cb_reservations»;
-      }
+  withGooseSeq = withPart 6 m t
 
   abbrev pub withSvSeq : Monitor
-  withSvSeq =
-      record {
-        settings = m .settings;
-        totals = m .totals;
-        «mms_rules» = m .«mms_rules»;
-        «goose_publishers» = m .«goose_publishers»;
-        «sv_publishers» = m .«sv_publishers»;
-        «rate_buckets» = m .«rate_buckets»;
-        «goose_seq» = m .«goose_seq»;
-        «sv_seq» = t;
-        «time_trackers» = m .«time_trackers»;
-        «cb_reservations» = m .«cb_reservations»;
-      }
+  withSvSeq = withPart 7 m t
 
   abbrev pub withTimeTrackers : Monitor
-  withTimeTrackers =
-      record {
-        settings = m .settings;
-        totals = m .totals;
-        «mms_rules» = m .«mms_rules»;
-        «goose_publishers» = m .«goose_publishers»;
-        «sv_publishers» = m .«sv_publishers»;
-        «rate_buckets» = m .«rate_buckets»;
-        «goose_seq» = m .«goose_seq»;
-        «sv_seq» = m .«sv_seq»;
-        «time_trackers» = t;
-        «cb_reservations» = m .«cb_reservations»;
-      }
+  withTimeTrackers = withPart 8 m t
 
   abbrev pub withCbReservations : Monitor
-  withCbReservations =
-      record {
-        settings = m .settings;
-        totals = m .totals;
-        «mms_rules» = m .«mms_rules»;
-        «goose_publishers» = m .«goose_publishers»;
-        «sv_publishers» = m .«sv_publishers»;
-        «rate_buckets» = m .«rate_buckets»;
-        «goose_seq» = m .«goose_seq»;
-        «sv_seq» = m .«sv_seq»;
-        «time_trackers» = m .«time_trackers»;
-        «cb_reservations» = t;
-      }
+  withCbReservations = withPart 9 m t
