@@ -16,23 +16,23 @@ use Rattle.records.specs.Alert.{severityNumber, denies, codeNumber, noAlert, al
 use Rattle.records.specs.Counter.{saturated, wrapped}
 use Rattle.records.specs.Result.{cleanResult, allowedWith, counted, withAlert, pushed}
 use Rattle.records.specs.Verdict.{verdictOf}
-use Rattle.records.proofs.Booleans.{and-true, and-false, and-both, cond-yes, cond-no}
+use Rattle.records.proofs.Booleans.{and-both, cond-yes, cond-no, cond-holds}
 use Rattle.monitor.specs.Monitor.{Monitor}
 use Rattle.monitor.specs.Totals.{alertCounters, withAlerts}
 use Rattle.monitor.proofs.TotalLaws.{alerts-kept}
 use Rattle.inspection.specs.declared.report.CheckAlert.{CheckAlert}
-use Rattle.inspection.specs.declared.report.CheckAlert.the-variants.{Nothing, Refusal, Notice}
 use Rattle.inspection.specs.declared.report.CheckAlerts.{CheckAlerts}
 use Rattle.inspection.specs.declared.report.Noted.{Noted}
-use Rattle.inspection.specs.Report.{Finding, refusal, notice, withAllowed, reportedNext, alertsPushed, pushedOn, ended, reported}
+use Rattle.inspection.specs.Report.{Finding, findingOf, withAllowed, reportedNext, alertsPushed, pushedOn, ended, reported}
 use Rattle.inspection.specs.Report.{findingsOf, alertsOf, isNothing, noneFound, cleanVerdict, notedOf, allowedOctet, alertNoted, withVerdict}
 
 -- ---- results
 -- a check that found nothing has no alerts
 nothing-found : (a : CheckAlert) → isNothing a ≡ true → findingsOf a ≡ []
-nothing-found Nothing e = refl
-nothing-found (Refusal severity code) e = absurd (false≢true e)
-nothing-found (Notice severity code) e = absurd (false≢true e)
+nothing-found a e = cond-yes _ _ e
+
+one-found : (a : CheckAlert) → isNothing a ≡ false → findingsOf a ≡ findingOf a ∷ []
+one-found a e = cond-no _ _ e
 
 pub none-found : (a : CheckAlerts) → noneFound a ≡ true → alertsOf a ≡ []
 none-found a e =
@@ -41,23 +41,25 @@ none-found a e =
     λ i. nothing-found (a .first) (x .0) i ++ (nothing-found (a .second) (y .0) i ++ nothing-found (a .third) (y .1) i)
 
 module _ (source sourceNumber time : ℕ) where
-  -- the code refuses the result before it adds the alert
-  pub refusal-added :
-      (p : Pushed) (severity : AlertSeverity) (code : AlertCode)
-      → pushed (withAllowed (p .result) false) (p .counters) severity source sourceNumber time code
-      ≡ reportedNext source sourceNumber time p (refusal severity code)
-  refusal-added p severity code =
-      ap (λ (b : Bool). pushed (withAllowed (p .result) b) (p .counters) severity source sourceNumber time code) (sym (and-false (p .result .allowed)))
-
-  pub notice-added :
-      (p : Pushed) (severity : AlertSeverity) (code : AlertCode)
-      → pushed (p .result) (p .counters) severity source sourceNumber time code ≡ reportedNext source sourceNumber time p (notice severity code)
-  notice-added p severity code =
-      ap (λ (b : Bool). pushed (withAllowed (p .result) b) (p .counters) severity source sourceNumber time code) (sym (and-true (p .result .allowed)))
-
   -- a result and the counters, with the alerts of one check's answer
   abbrev alertsAdded : Pushed → CheckAlert → Pushed
   alertsAdded p a = foldl (reportedNext source sourceNumber time) p (findingsOf a)
+
+  -- none, or one, which the code adds after it has refused the result
+  pub none-added : (p : Pushed) (a : CheckAlert) → isNothing a ≡ true → p ≡ alertsAdded p a
+  none-added p a h = ap (foldl (reportedNext source sourceNumber time) p) (sym (nothing-found a h))
+
+  pub alert-added :
+      (p : Pushed) (a : CheckAlert) {allowed : Bool} {severity : AlertSeverity} {code : AlertCode} {r : Pushed}
+      → isNothing a ≡ false
+      → allowed ≡ (p .result .allowed && not (findingOf a .refuses))
+      → severity ≡ findingOf a .severity
+      → code ≡ findingOf a .code
+      → r ≡ pushed (withAllowed (p .result) allowed) (p .counters) severity source sourceNumber time code
+      → r ≡ alertsAdded p a
+  alert-added p a h x s c e =
+      e ∙ (λ i. pushed (withAllowed (p .result) (x i)) (p .counters) (s i) source sourceNumber time (c i))
+      ∙ ap (foldl (reportedNext source sourceNumber time) p) (sym (one-found a h))
 
   -- the alerts of the three answers, added to a clean result
   pub three-pushed :
@@ -137,9 +139,7 @@ of-four P h (x ∷ y ∷ z ∷ w ∷ v ∷ l) e = absurd (omega (arith, e))
 
 -- a check's answer has one alert at most, three have three
 one-at-most : (a : CheckAlert) → length (findingsOf a) ≤ 1
-one-at-most Nothing = omega arith
-one-at-most (Refusal severity code) = omega arith
-one-at-most (Notice severity code) = omega arith
+one-at-most a = cond-holds (λ (l : List Finding). length l ≤ 1) (isNothing a) (omega arith) (omega arith)
 
 at-most-three : (a : CheckAlerts) → length (alertsOf a) ≤ 3
 at-most-three a =
@@ -231,6 +231,13 @@ module _ (source number time : ℕ) where
   noted-pushed counters a =
       ap (λ (n : Noted). foldl alertNoted n (alertsOf a)) (clean-noted source counters)
       ∙ noted-all (record { result = cleanResult source; counters = counters }) (alertsOf a) (omega (arith, at-most-three a)) refl
+
+-- the alert of one answer noted
+pub none-noted-yet : (n : Noted) (a : CheckAlert) → isNothing a ≡ true → n ≡ foldl alertNoted n (findingsOf a)
+none-noted-yet n a h = ap (foldl alertNoted n) (sym (nothing-found a h))
+
+pub one-noted : (n : Noted) (a : CheckAlert) {r : Noted} → isNothing a ≡ false → r ≡ alertNoted n (findingOf a) → r ≡ foldl alertNoted n (findingsOf a)
+one-noted n a h e = e ∙ ap (foldl alertNoted n) (sym (one-found a h))
 
 -- the alerts of three answers noted one by one
 pub three-noted :

@@ -14,13 +14,15 @@ use Rattle.monitor.specs.Parts.{After, svSeqOn, gooseSeqOn, timeFieldOn, rateOn
 use Rattle.monitor.specs.Settings.{timeMaxForwardJump, svMaxSmpCntGap}
 use Rattle.inspection.specs.declared.inspect_goose.GooseNumbers.{GooseNumbers}
 use Rattle.inspection.specs.declared.inspect_sv.SvNumbers.{SvNumbers}
+use Rattle.inspection.specs.declared.report.CheckAlert.{CheckAlert}
+use Rattle.inspection.specs.declared.report.CheckAlert.the-variants.{OverRate, BoundElsewhere, TestBlocked, UnknownPublisher}
 use Rattle.inspection.specs.declared.report.RuleCheck.{RuleCheck}
 use Rattle.inspection.specs.declared.report.RuleCheck.the-variants.{Refused, Rate}
-use Rattle.inspection.specs.InspectMms.{MmsRead, controlKey, mmsReserved, releases, mmsControl, mmsRated, mmsRate, mmsRule, mmsChecks}
+use Rattle.inspection.specs.InspectMms.{MmsRead, controlKey, mmsReserved, releases, mmsControl, overRate, unlessOver, mmsRate, mmsRule, mmsChecks}
 use Rattle.inspection.specs.InspectGoose.{GooseRead, streamKey, timedNumbers, streamFindings, retransmitted, gooseClock, gooseTimeField}
 use Rattle.inspection.specs.InspectGoose.{gooseReservation, gooseUnknown, gooseAllowed, blocked, gooseTest}
 use Rattle.inspection.specs.InspectSv.{SvRead, rateFindings, countFindings, svClock, svTimeField, svReservation, svRule, svBinding}
-use Rattle.inspection.specs.Report.{Finding, Checked, clockFindings, ended, permitted, unlessHijacked}
+use Rattle.inspection.specs.Report.{Finding, Checked, isNothing, findingsOf, clockFindings, ended, permitted, unlessHijacked}
 use Rattle.inspection.proofs.SizeLaws.{sizes, sv-long, goose-long, time-long, rate-long, cb-long, reserved-long, released-long}
 
 -- ---- how many alerts
@@ -76,6 +78,10 @@ module _ (m : Monitor) where
   unfolding rateOn
   bucket-kept key rate time = rw (rate-long (m .«rate_buckets») key rate time)
 
+  over-kept : (key rate time : ℕ) → Kept m (overRate m key rate time .monitor)
+  unfolding overRate
+  over-kept key rate time = cond-holds (λ (c : After Bool). Kept m (c .monitor)) (ltb 0 rate) (bucket-kept key rate time) refl
+
   use-kept : (key : List ℕ) (address : ℕ) → Kept m (cbOn m key address .monitor)
   unfolding cbOn
   use-kept key address = rw (cb-long (m .«cb_reservations») key address)
@@ -101,15 +107,15 @@ keeps-then e k = record { kept = k .kept ∙ e; few = k .few }
 ends : (m : Monitor) (findings : List Finding) → AtMost 3 findings → Keeps m (ended m findings)
 ends m findings h = record { kept = refl; few = h }
 
-ends-refused : (m : Monitor) (a : Finding) → Keeps m (ended m (a ∷ []))
-ends-refused m a = ends m (a ∷ []) (omega arith)
+ends-refused : (m : Monitor) (a : CheckAlert) → Keeps m (ended m (findingsOf a))
+ends-refused m a = ends m (findingsOf a) (cond-holds (AtMost 3) (isNothing a) (omega arith) (omega arith))
 
 ends-clean : (m : Monitor) → Keeps m (ended m [])
 ends-clean m = ends m [] (omega arith)
 
 -- the rules refuse, or checking goes on
 permits : (m : Monitor) (next : ℕ → Checked) → ((rate : ℕ) → Keeps m (next rate)) → (answer : RuleCheck) → Keeps m (permitted m next answer)
-permits m next h (Refused severity code) = ends-refused m _
+permits m next h (Refused alert) = ends-refused m alert
 permits m next h (Rate rate) = h rate
 
 mms-reserved : (c : After Bool) → Keeps (c .monitor) (mmsReserved c)
@@ -127,16 +133,14 @@ module _ (f : MmsRead) where
       (keeps-then (released-kept m key client) (ends-clean (releasedOn m key client)))
       (ends-clean m))
 
-  mms-rated : (c : After Bool) → Keeps (c .monitor) (mmsRated f c)
-  mms-rated c = cond-holds (Keeps (c .monitor)) (c .answer) (mms-control (c .monitor)) (ends-refused (c .monitor) _)
+  mms-unless-over : (c : After Bool) → Keeps (c .monitor) (unlessOver f c)
+  mms-unless-over c = cond-holds (Keeps (c .monitor)) (c .answer) (ends-refused (c .monitor) OverRate) (mms-control (c .monitor))
 
   mms-rate : (m : Monitor) (rate : ℕ) → Keeps m (mmsRate f rate m)
   unfolding mmsRate
   mms-rate m rate =
-      cond-holds (Keeps m) (ltb 0 rate)
-      (keeps-then (bucket-kept m (f .numbers .«invoke_id») rate (f .numbers .«timestamp_us»))
-      (mms-rated (rateOn m (f .numbers .«invoke_id») rate (f .numbers .«timestamp_us»))))
-      (mms-control m)
+      keeps-then (over-kept m (f .numbers .«invoke_id») rate (f .numbers .«timestamp_us»))
+      (mms-unless-over (overRate m (f .numbers .«invoke_id») rate (f .numbers .«timestamp_us»)))
 
 pub mms-kept : (m : Monitor) (f : MmsRead) → Keeps m (mmsChecks m f)
 unfolding mmsChecks
@@ -159,13 +163,13 @@ module _ (n : GooseNumbers) where
       (goose-clock (timeFieldOn m (timeMaxForwardJump m) (n .address) (n .seconds, n .fraction)))
 
   goose-bound : (c : After Bool) → Keeps (c .monitor) (unlessHijacked (gooseTimeField n) c)
-  goose-bound c = cond-holds (Keeps (c .monitor)) (c .answer) (ends-refused (c .monitor) _) (goose-time-field (c .monitor))
+  goose-bound c = cond-holds (Keeps (c .monitor)) (c .answer) (ends-refused (c .monitor) BoundElsewhere) (goose-time-field (c .monitor))
 
 pub goose-kept : (m : Monitor) (f : GooseRead) → Keeps m (gooseTest m f)
 unfolding gooseTest gooseAllowed gooseReservation
 goose-kept m f =
-    cond-holds (Keeps m) (blocked m (f .numbers .test)) (ends-refused m _)
-    (cond-holds (Keeps m) (gooseUnknown m (f .numbers .address) (f .publisher)) (ends-refused m _)
+    cond-holds (Keeps m) (blocked m (f .numbers .test)) (ends-refused m TestBlocked)
+    (cond-holds (Keeps m) (gooseUnknown m (f .numbers .address) (f .publisher)) (ends-refused m UnknownPublisher)
     (keeps-then (use-kept m (f .reservation) (f .numbers .address)) (goose-bound (f .numbers) (cbOn m (f .reservation) (f .numbers .address)))))
 
 module _ (svid : List ℕ) (n : SvNumbers) (rate : ℕ) where
@@ -188,7 +192,7 @@ module _ (svid : List ℕ) (n : SvNumbers) (rate : ℕ) where
       (sv-clock (timeFieldOn m (timeMaxForwardJump m) (n .address) (n .seconds, n .fraction)))
 
   sv-bound : (c : After Bool) → Keeps (c .monitor) (unlessHijacked (svTimeField svid n rate) c)
-  sv-bound c = cond-holds (Keeps (c .monitor)) (c .answer) (ends-refused (c .monitor) _) (sv-time-field (c .monitor))
+  sv-bound c = cond-holds (Keeps (c .monitor)) (c .answer) (ends-refused (c .monitor) BoundElsewhere) (sv-time-field (c .monitor))
 
 sv-reserved : (m : Monitor) (f : SvRead) (rate : ℕ) → Keeps m (svReservation f rate m)
 unfolding svReservation

@@ -1,5 +1,6 @@
 pub mod AddressLaws
 pub mod AlertLaws
+pub mod HijackLaws
 pub mod StageLaws
 pub mod SizeLaws
 pub mod CheckLaws

@@ -7,10 +7,6 @@ use native.Mathlib.Omega.{arith}
 use borrow.Author.Tests.{lt-ltb, eq-eqb, ne-eqb}
 use lib.Dec.{ltb}
 use lib.ListN.{getD}
-use Rattle.records.specs.declared.alert.AlertCode.{AlertCode}
-use Rattle.records.specs.declared.alert.AlertCode.the-variants.{CbHijack, PolicyViolation, RateExceeded, SvRateAnomaly}
-use Rattle.records.specs.declared.alert.AlertSeverity.{AlertSeverity}
-use Rattle.records.specs.declared.alert.AlertSeverity.the-variants.{Medium, High}
 use Rattle.records.specs.declared.error.VsError.{VsError}
 use Rattle.records.specs.declared.frame.GooseFrame.{GooseFrame}
 use Rattle.records.specs.declared.frame.MmsFrame.{MmsFrame}
@@ -34,7 +30,7 @@ use Rattle.checks.specs.declared.sv_seq.SvSeqOutcome.{SvSeqOutcome}
 use Rattle.checks.specs.declared.sv_seq.SvSeqOutcome.the-variants.{FirstSeen, Replay, ForwardGap, CycleWrap, SuspiciousSmpGap}
 use Rattle.checks.specs.GoosePublisher.{goosePublisher}
 use Rattle.checks.specs.GooseSeq.{retxChecked}
-use Rattle.checks.specs.Keys.{plainKey, reservationKey}
+use Rattle.checks.specs.Keys.{plainKey}
 use Rattle.checks.specs.SvPublisher.{svPublisher}
 use Rattle.checks.specs.SvSeq.{isReplay}
 use Rattle.monitor.specs.Monitor.{Monitor}
@@ -43,16 +39,18 @@ use Rattle.monitor.specs.Settings.{strictMode, retxEnforce, retxSchedule, timeM
 use Rattle.monitor.specs.Totals.{countedMms, countedGoose, countedSv}
 use Rattle.inspection.specs.declared.inspect_goose.GooseNumbers.{GooseNumbers}
 use Rattle.inspection.specs.declared.inspect_sv.SvNumbers.{SvNumbers}
+use Rattle.inspection.specs.declared.report.CheckAlert.{CheckAlert}
+use Rattle.inspection.specs.declared.report.CheckAlert.the-variants.{BoundElsewhere, OverRate, UnknownSvid, CountGap}
 use Rattle.inspection.specs.declared.report.RuleCheck.{RuleCheck}
 use Rattle.inspection.specs.declared.report.RuleCheck.the-variants.{Refused, Rate}
 use Rattle.inspection.specs.Address.{addressOf}
 use Rattle.inspection.specs.InspectGoose.{streamFindings, streamKey, timedNumbers, retransmitted, gooseStream, gooseClock, gooseTimeField}
-use Rattle.inspection.specs.InspectGoose.{gooseUnknown, controlBlock, gooseRead, gooseReadWith, gooseTest, checkedGoose}
-use Rattle.inspection.specs.InspectMms.{MmsRead, controlKey, fullFindings, mmsReserved, releases, mmsControl, mmsRated, mmsRate}
+use Rattle.inspection.specs.InspectGoose.{gooseUnknown, controlBlock, gooseRead, gooseReadBy, gooseNumbersBy, gooseTest, checkedGoose}
+use Rattle.inspection.specs.InspectMms.{MmsRead, controlKey, fullFindings, mmsReserved, releases, mmsControl, refusedOn, overRate, unlessOver, mmsRate}
 use Rattle.inspection.specs.InspectMms.{mmsRead, mmsReadWith, mmsChecks, checkedMms}
 use Rattle.inspection.specs.InspectSv.{rateFindings, countFindings, svCount, svClock, svTimeField, svMatched, svRule}
-use Rattle.inspection.specs.InspectSv.{svidOf, datasetOf, svRead, svReadWith, svBinding, checkedSv, inspectSv, rawInspected, inspectRawSv}
-use Rattle.inspection.specs.Report.{Finding, Checked, refusal, clockFindings, ended, unlessHijacked, permitted, withAllowed}
+use Rattle.inspection.specs.InspectSv.{svidOf, datasetOf, svRead, svReadBy, svNumbersBy, svBinding, checkedSv, inspectSv, rawInspected, inspectRawSv}
+use Rattle.inspection.specs.Report.{Finding, Checked, findingsOf, clockFindings, ended, unlessHijacked, permitted, withAllowed}
 
 pub nonzero : (n : ℕ) → ¬ (n ≡ 0) → ltb 0 n ≡ true
 nonzero n d = lt-ltb 0 n (omega (arith, d))
@@ -66,7 +64,7 @@ ends m e = ap (ended m) e
 -- a frame of an address that its reservation is not bound to, and any other
 module _ (next : Monitor → Checked) {m : Monitor} {hijack : Bool} {c : After Bool} (e : record { monitor = m; answer = hijack } ≡ c) where
   pub hijack-ends :
-      {a : List Finding} → hijack ≡ true → a ≡ refusal High CbHijack ∷ [] → record { monitor = m; answer = a } ≡ unlessHijacked next c
+      {a : List Finding} → hijack ≡ true → a ≡ findingsOf BoundElsewhere → record { monitor = m; answer = a } ≡ unlessHijacked next c
   hijack-ends h q = ends m q ∙ sym (cond-yes _ _ h) ∙ ap (unlessHijacked next) e
 
   pub hijack-passed : {r : Checked} → hijack ≡ false → r ≡ next m → r ≡ unlessHijacked next c
@@ -75,9 +73,9 @@ module _ (next : Monitor → Checked) {m : Monitor} {hijack : Bool} {c : After B
 -- what the rules say: refused, or a rate
 module _ (m : Monitor) (next : ℕ → Checked) {rule check : RuleCheck} (e : rule ≡ check) where
   pub rules-refuse :
-      (severity : AlertSeverity) (code : AlertCode) {a : List Finding} → rule ≡ Refused severity code → a ≡ refusal severity code ∷ []
+      (alert : CheckAlert) {a : List Finding} → rule ≡ Refused alert → a ≡ findingsOf alert
       → record { monitor = m; answer = a } ≡ permitted m next check
-  rules-refuse severity code q h = ends m h ∙ ap (permitted m next) (sym q ∙ e)
+  rules-refuse alert q h = ends m h ∙ ap (permitted m next) (sym q ∙ e)
 
   pub rules-permit : (rate : ℕ) {r : Checked} → rule ≡ Rate rate → r ≡ next rate → r ≡ permitted m next check
   rules-permit rate q h = h ∙ ap (permitted m next) (sym q ∙ e)
@@ -112,9 +110,9 @@ module _ (m : Monitor) (address : ℕ) (svid : List ℕ) where
   pub not-registered :
       {match : PublisherMatch} {count : ℕ} {strict : Bool} → match ≡ svPublisher (m .«sv_publishers») address svid → match ≡ NotRegistered
       → count ≡ getD (m .«sv_publishers») 192 0 → ¬ (count ≡ 0) → strict ≡ strictMode m
-      → cond strict (Refused Medium PolicyViolation) (Rate 0) ≡ svRule m address svid
+      → cond strict (Refused UnknownSvid) (Rate 0) ≡ svRule m address svid
   not-registered e h c d s =
-      ap (λ (b : Bool). cond b (Refused Medium PolicyViolation) (Rate 0))
+      ap (λ (b : Bool). cond b (Refused UnknownSvid) (Rate 0))
       (s ∙ sym (ap (λ (b : Bool). strictMode m && b) (answered (ap (ltb 0) c) (nonzero _ d)) ∙ and-true (strictMode m)))
       ∙ rule-matched NotRegistered e h
 
@@ -126,7 +124,7 @@ count-then-rate limit rates FirstSeen = refl
 count-then-rate limit rates Replay = refl
 count-then-rate limit rates (ForwardGap gap) = go (ltb 0 limit && ltb limit gap)
   where
-    go : (b : Bool) → cond b (refusal Medium SvRateAnomaly ∷ []) [] ++ rates ≡ cond b (refusal Medium SvRateAnomaly ∷ rates) rates
+    go : (b : Bool) → cond b (findingsOf CountGap) [] ++ rates ≡ cond b (findingsOf CountGap ++ rates) rates
     go true = refl
     go false = refl
 count-then-rate limit rates CycleWrap = refl
@@ -147,13 +145,13 @@ clock-and-count svid n rate m {alert = alert} {outcome = outcome} l t s g h =
     ∙ ap (svCount svid n rate (clockFindings alert)) s
     ∙ ap (svClock svid n rate) (t ∙ ap (λ (limit : ℕ). timeFieldOn m limit (n .address) (n .seconds, n .fraction)) l)
 
--- a frame by the keys and the address that the code makes of it
+-- a frame by the key and the address that the code makes of it
 pub sv-checked :
-    (m : Monitor) (f : SvFrame) {svid dataset : List ℕ} {address : ℕ} {counted : Monitor} {c : Checked}
-    → svid ≡ plainKey (svidOf f) → dataset ≡ reservationKey false (datasetOf f) → address ≡ addressOf (f .«src_mac») → counted ≡ countedSv m
-    → c ≡ svBinding counted (svReadWith svid dataset address f) → c ≡ checkedSv m f
-sv-checked m f {counted = counted} k d s n e =
-    counted-checked (λ x. svBinding x (svRead f)) n (e ∙ λ i. svBinding counted (svReadWith (k i) (d i) (s i) f))
+    (m : Monitor) (f : SvFrame) {svid : List ℕ} {address : ℕ} {counted : Monitor} {c : Checked}
+    → svid ≡ plainKey (svidOf f) → address ≡ addressOf (f .«src_mac») → counted ≡ countedSv m
+    → c ≡ svBinding counted (svReadBy svid (datasetOf f) (svNumbersBy address f)) → c ≡ checkedSv m f
+sv-checked m f {counted = counted} k s n e =
+    counted-checked (λ x. svBinding x (svRead f)) n (e ∙ λ i. svBinding counted (svReadBy (k i) (datasetOf f) (svNumbersBy (s i) f)))
 
 -- a raw frame, unreadable or read
 module _ (m : Monitor) (octets : List ℕ) (time : ℕ) {p : ParsedSv} (e : p ≡ svFrame octets time) where
@@ -214,12 +212,11 @@ clock-and-stream n m {timed = timed} {alert = alert} {replay = replay} l t o k s
     ∙ ap (gooseClock n) (t ∙ ap (λ (limit : ℕ). timeFieldOn m limit (n .address) (n .seconds, n .fraction)) l)
 
 pub goose-checked :
-    (m : Monitor) (f : GooseFrame) {publisher reservation : List ℕ} {address hash : ℕ} {counted : Monitor} {c : Checked}
-    → publisher ≡ plainKey (controlBlock f) → reservation ≡ reservationKey true (controlBlock f) → address ≡ addressOf (f .«src_mac»)
-    → hash ≡ fnv1a (controlBlock f) → counted ≡ countedGoose m → c ≡ gooseTest counted (gooseReadWith publisher reservation address hash f)
-    → c ≡ checkedGoose m f
-goose-checked m f {counted = counted} p k s h n e =
-    counted-checked (λ x. gooseTest x (gooseRead f)) n (e ∙ λ i. gooseTest counted (gooseReadWith (p i) (k i) (s i) (h i) f))
+    (m : Monitor) (f : GooseFrame) {address hash : ℕ} {counted : Monitor} {c : Checked}
+    → address ≡ addressOf (f .«src_mac») → hash ≡ fnv1a (controlBlock f) → counted ≡ countedGoose m
+    → c ≡ gooseTest counted (gooseReadBy (controlBlock f) (gooseNumbersBy address hash f)) → c ≡ checkedGoose m f
+goose-checked m f {counted = counted} s h n e =
+    counted-checked (λ x. gooseTest x (gooseRead f)) n (e ∙ λ i. gooseTest counted (gooseReadBy (controlBlock f) (gooseNumbersBy (s i) (h i) f)))
 
 -- ---- MMS
 
@@ -247,23 +244,28 @@ module _ (f : MmsRead) (m : Monitor) where
   unfolding mmsControl
   no-control d h q = ends _ q ∙ sym (cond-no _ _ (ne-eqb _ _ d) ∙ cond-no _ _ h)
 
-  module _ (rate : ℕ) where
-    pub rate-free : {r : Checked} → rate ≡ 0 → r ≡ mmsControl f m → r ≡ mmsRate f rate m
+  -- over the rate, and not
+  module _ (rate : ℕ) {after : Monitor} {over : Bool}
+      (e : record { monitor = after; answer = over } ≡ overRate m (f .numbers .«invoke_id») rate (f .numbers .«timestamp_us»)) where
+    pub over-ends : {a : List Finding} → over ≡ true → a ≡ findingsOf OverRate → record { monitor = after; answer = a } ≡ mmsRate f rate m
     unfolding mmsRate
-    rate-free h q = q ∙ sym (cond-no _ _ (ap (ltb 0) h))
+    over-ends h q = ends _ q ∙ sym (cond-yes _ _ h) ∙ ap (unlessOver f) e
 
-    module _ {after : Monitor} {allowed : Bool} (d : ¬ (rate ≡ 0))
-        (e : record { monitor = after; answer = allowed } ≡ rateOn m (f .numbers .«invoke_id») rate (f .numbers .«timestamp_us»)) where
-      asked : mmsRated f (record { monitor = after; answer = allowed }) ≡ mmsRate f rate m
-      unfolding mmsRate
-      asked = ap (mmsRated f) e ∙ sym (cond-yes _ _ (nonzero rate d))
+    pub over-passed : {r : Checked} → over ≡ false → r ≡ mmsControl f after → r ≡ mmsRate f rate m
+    unfolding mmsRate
+    over-passed h q = q ∙ sym (cond-no _ _ h) ∙ ap (unlessOver f) e
 
-      pub rate-passed : {r : Checked} → allowed ≡ true → r ≡ mmsControl f after → r ≡ mmsRate f rate m
-      rate-passed h q = q ∙ sym (cond-yes _ _ h) ∙ asked
+-- a rate of 0 is no limit; any other asks the bucket
+module _ (m : Monitor) (key rate time : ℕ) where
+  pub rate-free : rate ≡ 0 → record { monitor = m; answer = false } ≡ overRate m key rate time
+  unfolding overRate
+  rate-free h = sym (cond-no _ _ (ap (ltb 0) h))
 
-      pub rate-exceeded :
-          {a : List Finding} → allowed ≡ false → a ≡ refusal Medium RateExceeded ∷ [] → record { monitor = after; answer = a } ≡ mmsRate f rate m
-      rate-exceeded h q = ends _ q ∙ sym (cond-no _ _ h) ∙ asked
+  pub rate-asked :
+      {after : Monitor} {allowed : Bool} → ¬ (rate ≡ 0) → record { monitor = after; answer = allowed } ≡ rateOn m key rate time
+      → record { monitor = after; answer = not allowed } ≡ overRate m key rate time
+  unfolding overRate
+  rate-asked d e = ap refusedOn e ∙ sym (cond-yes _ _ (nonzero rate d))
 
 pub mms-checked :
     (m : Monitor) (f : MmsFrame) {service : ℕ} {write : Bool} {counted : Monitor} {c : Checked} → service ≡ serviceNumber (f .«service_type»)

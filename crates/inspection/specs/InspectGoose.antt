@@ -1,11 +1,9 @@
 -- The inspection of a GOOSE frame (01, "Refusals in checking order", 9 to 13).
 use Prim.Native.Nat.{ℕ}
 use mathlib.Core.Bool.{Bool, true, _&&_, not, cond}
-use mathlib.Core.List.{List, [], _∷_, _++_}
+use mathlib.Core.List.{List, [], _++_}
 use lib.Dec.{ltb}
 use lib.ListN.{getD}
-use Rattle.records.specs.declared.alert.AlertSeverity.the-variants.{Medium, High}
-use Rattle.records.specs.declared.alert.AlertCode.the-variants.{ReplayDetected, PolicyViolation, RetransmissionAnomaly}
 use Rattle.records.specs.declared.frame.GooseFrame.{GooseFrame}
 use Rattle.records.specs.declared.result.InspectResult.{InspectResult}
 use Rattle.records.specs.Alert.{sourceGoose}
@@ -20,8 +18,9 @@ use Rattle.monitor.specs.Parts.{After, gooseSeqOn, timeFieldOn, cbOn}
 use Rattle.monitor.specs.Settings.{blockTestFrames, retxSchedule, retxEnforce, timeMaxForwardJump}
 use Rattle.monitor.specs.Totals.{countedGoose}
 use Rattle.inspection.specs.declared.inspect_goose.GooseNumbers.{GooseNumbers}
+use Rattle.inspection.specs.declared.report.CheckAlert.the-variants.{TestBlocked, UnknownPublisher, GooseReplay, Retransmission}
 use Rattle.inspection.specs.Address.{addressOf}
-use Rattle.inspection.specs.Report.{Finding, Checked, refusal, notice, clockFindings, ended, unlessHijacked, reported}
+use Rattle.inspection.specs.Report.{Finding, Checked, findingsOf, clockFindings, ended, unlessHijacked, reported}
 
 -- the control block's name, the frame's numbers, stNum and sqNum, and the pair of t, seconds and fraction
 abbrev pub controlBlock : GooseFrame → List ℕ
@@ -39,26 +38,24 @@ pub record GooseRead : Type 0 where
   pub reservation : List ℕ
   pub numbers : GooseNumbers
 
-abbrev pub gooseReadWith : List ℕ → List ℕ → ℕ → ℕ → GooseFrame → GooseRead
-gooseReadWith publisher reservation address hash f =
+abbrev pub gooseReadBy : List ℕ → GooseNumbers → GooseRead
+gooseReadBy name n = record { publisher = plainKey name; reservation = reservationKey true name; numbers = n }
+
+abbrev pub gooseNumbersBy : ℕ → ℕ → GooseFrame → GooseNumbers
+gooseNumbersBy address hash f =
     record {
-      publisher = publisher;
-      reservation = reservation;
-      numbers = record {
-        address = address;
-        hash = hash;
-        «st_num» = f .«st_num»;
-        «sq_num» = f .«sq_num»;
-        test = f .test;
-        «timestamp_us» = f .«timestamp_us»;
-        seconds = f .«t_seconds_since_epoch»;
-        fraction = f .«t_fraction_of_second»;
-      };
+      address = address;
+      hash = hash;
+      «st_num» = f .«st_num»;
+      «sq_num» = f .«sq_num»;
+      test = f .test;
+      «timestamp_us» = f .«timestamp_us»;
+      seconds = f .«t_seconds_since_epoch»;
+      fraction = f .«t_fraction_of_second»;
     }
 
 abbrev pub gooseRead : GooseFrame → GooseRead
-gooseRead f =
-    gooseReadWith (plainKey (controlBlock f)) (reservationKey true (controlBlock f)) (addressOf (f .«src_mac»)) (fnv1a (controlBlock f)) f
+gooseRead f = gooseReadBy (controlBlock f) (gooseNumbersBy (addressOf (f .«src_mac»)) (fnv1a (controlBlock f)) f)
 
 -- the stream's key, and the numbers with the time
 abbrev pub streamKey : GooseNumbers → List ℕ
@@ -70,7 +67,7 @@ timedNumbers n = ((n .«st_num», n .«sq_num»), n .«timestamp_us»)
 -- 13. replay: High 3; otherwise a retransmission outside tolerance is Medium 30
 abbrev pub streamFindings : Bool → Bool → List Finding
 streamFindings replay outside =
-    cond replay (refusal High ReplayDetected ∷ []) (cond outside (notice Medium RetransmissionAnomaly ∷ []) [])
+    cond replay (findingsOf GooseReplay) (cond outside (findingsOf Retransmission) [])
 
 -- the retransmission is asked for only with enforcement on
 unfoldable pub retransmitted : Monitor → GooseNumbers → Bool
@@ -102,7 +99,7 @@ gooseUnknown m address name =
 -- 10. publishers exist, none fits: High 6
 unfoldable pub gooseAllowed : Monitor → GooseRead → Checked
 gooseAllowed m f =
-    cond (gooseUnknown m (f .numbers .address) (f .publisher)) (ended m (refusal High PolicyViolation ∷ [])) (gooseReservation (f .numbers) (f .reservation) m)
+    cond (gooseUnknown m (f .numbers .address) (f .publisher)) (ended m (findingsOf UnknownPublisher)) (gooseReservation (f .numbers) (f .reservation) m)
 
 -- a test frame while blocked
 abbrev pub blocked : Monitor → Bool → Bool
@@ -110,7 +107,7 @@ blocked m test = blockTestFrames m && test
 
 -- 9. test frame while blocked: Medium 6
 unfoldable pub gooseTest : Monitor → GooseRead → Checked
-gooseTest m f = cond (blocked m (f .numbers .test)) (ended m (refusal Medium PolicyViolation ∷ [])) (gooseAllowed m f)
+gooseTest m f = cond (blocked m (f .numbers .test)) (ended m (findingsOf TestBlocked)) (gooseAllowed m f)
 
 -- a GOOSE frame counted and checked
 abbrev pub checkedGoose : Monitor → GooseFrame → Checked

@@ -1,11 +1,9 @@
 -- The inspection of an MMS frame (01, "Refusals in checking order", 4 to 8; "Remembered tables", reservation).
 use Prim.Native.Nat.{ℕ}
-use mathlib.Core.Bool.{Bool, _&&_, _||_, not, cond}
-use mathlib.Core.List.{List, [], _∷_}
+use mathlib.Core.Bool.{Bool, false, _&&_, _||_, not, cond}
+use mathlib.Core.List.{List, []}
 use lib.Dec.{eqb, ltb}
 use lib.ListN.{getD}
-use Rattle.records.specs.declared.alert.AlertSeverity.the-variants.{Low, Medium, High}
-use Rattle.records.specs.declared.alert.AlertCode.the-variants.{WriteProtection, RateExceeded, UnknownFunctionCode, NoMatchingRule, ResourceExhausted}
 use Rattle.records.specs.declared.frame.MmsFrame.{MmsFrame}
 use Rattle.records.specs.declared.result.InspectResult.{InspectResult}
 use Rattle.records.specs.declared.search.Found.{Found}
@@ -20,9 +18,10 @@ use Rattle.monitor.specs.Parts.{After, rateOn, reservedOn, releasedOn}
 use Rattle.monitor.specs.Settings.{strictMode, mmsServiceMask, mmsReadOnly}
 use Rattle.monitor.specs.Totals.{countedMms}
 use Rattle.inspection.specs.declared.inspect_mms.MmsNumbers.{MmsNumbers}
+use Rattle.inspection.specs.declared.report.CheckAlert.the-variants.{ServiceMasked, WriteRefused, OverRate, NoRule, ReservationsFull}
 use Rattle.inspection.specs.declared.report.RuleCheck.{RuleCheck}
 use Rattle.inspection.specs.declared.report.RuleCheck.the-variants.{Refused, Rate}
-use Rattle.inspection.specs.Report.{Finding, Checked, refusal, notice, ended, permitted, reported}
+use Rattle.inspection.specs.Report.{Finding, Checked, findingsOf, ended, permitted, reported}
 
 -- what the checks read of a frame: the octets of the name that a control action states, and its numbers
 pub record MmsRead : Type 0 where
@@ -54,7 +53,7 @@ controlKey f = reservationKey (f .numbers .«control_block_is_goose») (nameOf (
 
 -- a full reservation table gives Low 23 and still allows
 abbrev pub fullFindings : Bool → List Finding
-fullFindings taken = cond taken [] (notice Low ResourceExhausted ∷ [])
+fullFindings taken = cond taken [] (findingsOf ReservationsFull)
 
 abbrev pub mmsReserved : After Bool → Checked
 mmsReserved c = ended (c .monitor) (fullFindings (c .answer))
@@ -63,6 +62,13 @@ mmsReserved c = ended (c .monitor) (fullFindings (c .answer))
 abbrev pub releases : ℕ → Bool
 releases service = eqb service 12 || eqb service 10
 
+-- whether a request is over a rate: its bucket is empty; a rate of 0 is no limit
+abbrev pub refusedOn : After Bool → After Bool
+refusedOn c = record { monitor = c .monitor; answer = not (c .answer) }
+
+unfoldable pub overRate : Monitor → ℕ → ℕ → ℕ → After Bool
+overRate m key rate time = cond (ltb 0 rate) (refusedOn (rateOn m key rate time)) (record { monitor = m; answer = false })
+
 module _ (f : MmsRead) where
   -- the control actions: SelectControl 11 reserves, CancelControl 12 and Conclude 10 release
   unfoldable pub mmsControl : Monitor → Checked
@@ -70,18 +76,17 @@ module _ (f : MmsRead) where
       cond (eqb (f .numbers .service) 11) (mmsReserved (reservedOn m (controlKey f) (f .numbers .«client_id»)))
       (cond (releases (f .numbers .service)) (ended (releasedOn m (controlKey f) (f .numbers .«client_id»)) []) (ended m []))
 
-  -- 7. the bucket is empty: Medium 4
-  abbrev pub mmsRated : After Bool → Checked
-  mmsRated c = cond (c .answer) (mmsControl (c .monitor)) (ended (c .monitor) (refusal Medium RateExceeded ∷ []))
+  -- 7. over the rate: Medium 4
+  abbrev pub unlessOver : After Bool → Checked
+  unlessOver c = cond (c .answer) (ended (c .monitor) (findingsOf OverRate)) (mmsControl (c .monitor))
 
-  -- a rate of 0 is no limit
   unfoldable pub mmsRate : ℕ → Monitor → Checked
-  mmsRate rate m = cond (ltb 0 rate) (mmsRated (rateOn m (f .numbers .«invoke_id») rate (f .numbers .«timestamp_us»))) (mmsControl m)
+  mmsRate rate m = unlessOver (overRate m (f .numbers .«invoke_id») rate (f .numbers .«timestamp_us»))
 
 -- 6. the applying rule is read-only and a write comes: High 2; otherwise its rate. 8. strict, rules exist, none applies: Medium 16
 abbrev pub mmsApplying : Bool → List ℕ → Bool → Found → RuleCheck
-mmsApplying strict rules write (At i) = cond (ruleReadOnly rules i && write) (Refused High WriteProtection) (Rate (ruleRate rules i))
-mmsApplying strict rules write Nothing = cond (strict && ltb 0 (getD rules 48 0)) (Refused Medium NoMatchingRule) (Rate 0)
+mmsApplying strict rules write (At i) = cond (ruleReadOnly rules i && write) (Refused WriteRefused) (Rate (ruleRate rules i))
+mmsApplying strict rules write Nothing = cond (strict && ltb 0 (getD rules 48 0)) (Refused NoRule) (Rate 0)
 
 -- whether a mask refuses a raw number: it is nonzero, and the number is 16 or above or its bit is not in it
 unfoldable pub masked : ℕ → ℕ → Bool
@@ -90,8 +95,8 @@ masked mask raw = ltb 0 mask && not (hasBit mask raw)
 -- 4. the mask refuses the raw number: Medium 7. 5. read-only and a write: High 2. Masks use the raw number, write checks the service
 unfoldable pub mmsRule : Monitor → ℕ → Bool → RuleCheck
 mmsRule m raw write =
-    cond (masked (mmsServiceMask m) raw) (Refused Medium UnknownFunctionCode)
-    (cond (mmsReadOnly m && write) (Refused High WriteProtection) (mmsApplying (strictMode m) (m .«mms_rules») write (firstRule (m .«mms_rules») raw)))
+    cond (masked (mmsServiceMask m) raw) (Refused ServiceMasked)
+    (cond (mmsReadOnly m && write) (Refused WriteRefused) (mmsApplying (strictMode m) (m .«mms_rules») write (firstRule (m .«mms_rules») raw)))
 
 unfoldable pub mmsChecks : Monitor → MmsRead → Checked
 mmsChecks m f = permitted m (λ rate. mmsRate f rate m) (mmsRule m (f .numbers .«raw_service_type») (f .numbers .write))

@@ -1,11 +1,9 @@
 -- The inspection of a sampled-values frame, decoded or raw (01, "Refusals in checking order", 3 and 14 to 20).
 use Prim.Native.Nat.{ℕ}
 use mathlib.Core.Bool.{Bool, false, _&&_, not, cond}
-use mathlib.Core.List.{List, [], _∷_, _++_}
+use mathlib.Core.List.{List, [], _++_}
 use lib.Dec.{eqb, ltb}
 use lib.ListN.{getD}
-use Rattle.records.specs.declared.alert.AlertSeverity.the-variants.{Medium, High}
-use Rattle.records.specs.declared.alert.AlertCode.the-variants.{PolicyViolation, SvReplay, SvRateAnomaly, IedMismatch}
 use Rattle.records.specs.declared.frame.SvFrame.{SvFrame}
 use Rattle.records.specs.declared.result.InspectResult.{InspectResult}
 use Rattle.records.specs.Alert.{sourceSv}
@@ -26,10 +24,11 @@ use Rattle.monitor.specs.Settings.{strictMode, timeMaxForwardJump, svMaxSmpCntG
 use Rattle.monitor.specs.Totals.{countedSv}
 use Rattle.inspection.specs.declared.inspect_sv.RawSv.{RawSv}
 use Rattle.inspection.specs.declared.inspect_sv.SvNumbers.{SvNumbers}
+use Rattle.inspection.specs.declared.report.CheckAlert.the-variants.{WrongIed, UnknownSvid, CountReplay, CountGap, SuspiciousCount, RateMismatch}
 use Rattle.inspection.specs.declared.report.RuleCheck.{RuleCheck}
 use Rattle.inspection.specs.declared.report.RuleCheck.the-variants.{Refused, Rate}
 use Rattle.inspection.specs.Address.{addressOf}
-use Rattle.inspection.specs.Report.{Finding, Checked, refusal, notice, clockFindings, ended, unlessHijacked, permitted, reported, withAllowed}
+use Rattle.inspection.specs.Report.{Finding, Checked, findingsOf, clockFindings, ended, unlessHijacked, permitted, reported, withAllowed}
 
 -- the svID, the data set's name, and the pair of the time field, seconds and fraction
 abbrev pub svidOf : SvFrame → List ℕ
@@ -47,36 +46,35 @@ pub record SvRead : Type 0 where
   pub dataset : List ℕ
   pub numbers : SvNumbers
 
-abbrev pub svReadWith : List ℕ → List ℕ → ℕ → SvFrame → SvRead
-svReadWith svid dataset address f =
+abbrev pub svReadBy : List ℕ → List ℕ → SvNumbers → SvRead
+svReadBy svid dataset n = record { svid = svid; dataset = reservationKey false dataset; numbers = n }
+
+abbrev pub svNumbersBy : ℕ → SvFrame → SvNumbers
+svNumbersBy address f =
     record {
-      svid = svid;
-      dataset = dataset;
-      numbers = record {
-        address = address;
-        seconds = f .«t_seconds_since_epoch»;
-        fraction = f .«t_fraction_of_second»;
-        «smp_cnt» = f .«smp_cnt»;
-        «smp_rate» = f .«smp_rate»;
-      };
+      address = address;
+      seconds = f .«t_seconds_since_epoch»;
+      fraction = f .«t_fraction_of_second»;
+      «smp_cnt» = f .«smp_cnt»;
+      «smp_rate» = f .«smp_rate»;
     }
 
 abbrev pub svRead : SvFrame → SvRead
-svRead f = svReadWith (plainKey (svidOf f)) (reservationKey false (datasetOf f)) (addressOf (f .«src_mac»)) f
+svRead f = svReadBy (plainKey (svidOf f)) (datasetOf f) (svNumbersBy (addressOf (f .«src_mac»)) f)
 
 -- 20. frame's and rule's rates nonzero and unequal: Medium 27
 unfoldable pub rateFindings : ℕ → ℕ → List Finding
 rateFindings frameRate rate =
-    cond (ltb 0 frameRate && ltb 0 rate && not (eqb frameRate rate)) (refusal Medium SvRateAnomaly ∷ []) []
+    cond (ltb 0 frameRate && ltb 0 rate && not (eqb frameRate rate)) (findingsOf RateMismatch) []
 
 -- 18. replay: High 26, and checking ends. 19. gap above a nonzero limit: Medium 27, checking goes on; a suspicious count's Medium 27 does not
 -- refuse. `further` is what the checks after the count find
 unfoldable pub countFindings : ℕ → List Finding → SvSeqOutcome → List Finding
 countFindings limit further FirstSeen = further
-countFindings limit further Replay = refusal High SvReplay ∷ []
-countFindings limit further (ForwardGap gap) = cond (ltb 0 limit && ltb limit gap) (refusal Medium SvRateAnomaly ∷ further) further
+countFindings limit further Replay = findingsOf CountReplay
+countFindings limit further (ForwardGap gap) = cond (ltb 0 limit && ltb limit gap) (findingsOf CountGap ++ further) further
 countFindings limit further CycleWrap = further
-countFindings limit further (SuspiciousSmpGap gap) = notice Medium SvRateAnomaly ∷ further
+countFindings limit further (SuspiciousSmpGap gap) = findingsOf SuspiciousCount ++ further
 
 module _ (svid : List ℕ) (n : SvNumbers) (rate : ℕ) where
   -- the count's alerts follow the clock's
@@ -98,8 +96,8 @@ svReservation f rate m = unlessHijacked (svTimeField (f .svid) (f .numbers) rate
 -- 14. svID registered, never with this address: High 28. 15. strict, publishers exist, svID not among them: Medium 6. Otherwise the
 -- rate of the last rule that fits, none for an svID not among them
 abbrev pub svMatched : Bool → List ℕ → PublisherMatch → RuleCheck
-svMatched strict publishers WrongAddress = Refused High IedMismatch
-svMatched strict publishers NotRegistered = cond (strict && ltb 0 (getD publishers 192 0)) (Refused Medium PolicyViolation) (Rate 0)
+svMatched strict publishers WrongAddress = Refused WrongIed
+svMatched strict publishers NotRegistered = cond (strict && ltb 0 (getD publishers 192 0)) (Refused UnknownSvid) (Rate 0)
 svMatched strict publishers (Fits i) = Rate (publisherRate publishers i)
 
 unfoldable pub svRule : Monitor → ℕ → List ℕ → RuleCheck

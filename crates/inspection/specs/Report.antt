@@ -2,12 +2,13 @@
 use Prim.Native.Nat.{ℕ, _+_, _*_}
 use mathlib.Core.Bool.{Bool, true, false, _&&_, _||_, not, cond}
 use mathlib.Core.List.{List, [], _∷_, _++_, foldl}
-use lib.Dec.{ltb}
+use lib.Dec.{eqb, ltb}
 use lib.ListN.{getD, set}
 use Rattle.records.specs.declared.alert.AlertSeverity.{AlertSeverity}
-use Rattle.records.specs.declared.alert.AlertSeverity.the-variants.{High}
+use Rattle.records.specs.declared.alert.AlertSeverity.the-variants.{Info, Low, Medium, High}
 use Rattle.records.specs.declared.alert.AlertCode.{AlertCode}
-use Rattle.records.specs.declared.alert.AlertCode.the-variants.{CbHijack, TimeSyncSpoofing}
+use Rattle.records.specs.declared.alert.AlertCode.the-variants.{Unspecified, UnknownFunctionCode, WriteProtection, RateExceeded, NoMatchingRule, ResourceExhausted, PolicyViolation}
+use Rattle.records.specs.declared.alert.AlertCode.the-variants.{CbHijack, TimeSyncSpoofing, ReplayDetected, RetransmissionAnomaly, IedMismatch, SvReplay, SvRateAnomaly}
 use Rattle.records.specs.declared.result.AlertCounters.{AlertCounters}
 use Rattle.records.specs.declared.result.InspectResult.{InspectResult}
 use Rattle.records.specs.declared.result.Pushed.{Pushed}
@@ -18,7 +19,8 @@ use Rattle.monitor.specs.Monitor.{Monitor}
 use Rattle.monitor.specs.Parts.{After}
 use Rattle.monitor.specs.Totals.{alertCounters, withAlerts}
 use Rattle.inspection.specs.declared.report.CheckAlert.{CheckAlert}
-use Rattle.inspection.specs.declared.report.CheckAlert.the-variants.{Nothing, Refusal, Notice}
+use Rattle.inspection.specs.declared.report.CheckAlert.the-variants.{Nothing, ServiceMasked, WriteRefused, OverRate, NoRule, ReservationsFull, TestBlocked, UnknownPublisher, BoundElsewhere, ClockAlert}
+use Rattle.inspection.specs.declared.report.CheckAlert.the-variants.{GooseReplay, Retransmission, WrongIed, UnknownSvid, CountReplay, CountGap, SuspiciousCount, RateMismatch}
 use Rattle.inspection.specs.declared.report.CheckAlerts.{CheckAlerts}
 use Rattle.inspection.specs.declared.report.Noted.{Noted}
 use Rattle.inspection.specs.declared.report.RuleCheck.{RuleCheck}
@@ -38,9 +40,38 @@ refusal severity code = record { severity = severity; code = code; refuses = tru
 abbrev pub notice : AlertSeverity → AlertCode → Finding
 notice severity code = record { severity = severity; code = code; refuses = false }
 
+-- the alerts that checks give, by their answers; an answer without an alert has no code
+abbrev pub findingOf : CheckAlert → Finding
+findingOf Nothing = notice Info Unspecified
+findingOf ServiceMasked = refusal Medium UnknownFunctionCode
+findingOf WriteRefused = refusal High WriteProtection
+findingOf OverRate = refusal Medium RateExceeded
+findingOf NoRule = refusal Medium NoMatchingRule
+findingOf ReservationsFull = notice Low ResourceExhausted
+findingOf TestBlocked = refusal Medium PolicyViolation
+findingOf UnknownPublisher = refusal High PolicyViolation
+findingOf BoundElsewhere = refusal High CbHijack
+findingOf ClockAlert = refusal High TimeSyncSpoofing
+findingOf GooseReplay = refusal High ReplayDetected
+findingOf Retransmission = notice Medium RetransmissionAnomaly
+findingOf WrongIed = refusal High IedMismatch
+findingOf UnknownSvid = refusal Medium PolicyViolation
+findingOf CountReplay = refusal High SvReplay
+findingOf CountGap = refusal Medium SvRateAnomaly
+findingOf SuspiciousCount = notice Medium SvRateAnomaly
+findingOf RateMismatch = refusal Medium SvRateAnomaly
+
+-- whether a check found nothing
+abbrev pub isNothing : CheckAlert → Bool
+isNothing a = eqb (codeNumber (findingOf a .code)) 0
+
+-- the alerts of a check's answer
+abbrev pub findingsOf : CheckAlert → List Finding
+findingsOf a = cond (isNothing a) [] (findingOf a ∷ [])
+
 -- a clock alert: High 31, checking goes on
 abbrev pub clockFindings : Bool → List Finding
-clockFindings alert = cond alert (refusal High TimeSyncSpoofing ∷ []) []
+clockFindings alert = cond alert (findingsOf ClockAlert) []
 
 -- an inspection after its checks: the monitor, and the alerts in their order
 abbrev pub Checked : Type 0
@@ -52,11 +83,11 @@ ended m findings = record { monitor = m; answer = findings }
 
 -- a control block or data set bound to another address: High 29, and checking ends
 abbrev pub unlessHijacked : (Monitor → Checked) → After Bool → Checked
-unlessHijacked next c = cond (c .answer) (ended (c .monitor) (refusal High CbHijack ∷ [])) (next (c .monitor))
+unlessHijacked next c = cond (c .answer) (ended (c .monitor) (findingsOf BoundElsewhere)) (next (c .monitor))
 
 -- checking ends where the rules refuse, and goes on with the rate that they give
 abbrev pub permitted : Monitor → (ℕ → Checked) → RuleCheck → Checked
-permitted m next (Refused severity code) = ended m (refusal severity code ∷ [])
+permitted m next (Refused alert) = ended m (findingsOf alert)
 permitted m next (Rate rate) = next rate
 
 -- a result with this allowed flag
@@ -89,21 +120,9 @@ reported source sourceNumber time c = pushedOn (c .monitor) (alertsPushed source
 
 -- ---- for the code: what it keeps of the findings
 
--- the alerts of a check's answer
-abbrev pub findingsOf : CheckAlert → List Finding
-findingsOf Nothing = []
-findingsOf (Refusal severity code) = refusal severity code ∷ []
-findingsOf (Notice severity code) = notice severity code ∷ []
-
 -- the alerts of three answers in their order
 abbrev pub alertsOf : CheckAlerts → List Finding
 alertsOf a = findingsOf (a .first) ++ (findingsOf (a .second) ++ findingsOf (a .third))
-
--- whether a check found nothing
-abbrev pub isNothing : CheckAlert → Bool
-isNothing Nothing = true
-isNothing (Refusal severity code) = false
-isNothing (Notice severity code) = false
 
 -- whether three checks found nothing
 abbrev pub noneFound : CheckAlerts → Bool

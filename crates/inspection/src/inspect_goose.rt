@@ -1,24 +1,26 @@
 // The inspection of a GOOSE frame, carried over from industrial/iec61850-monitor/src/lib.rs of craton-shield a31d888527 (Apache-2.0) and changed: a
 // chain of stages on the monitor's words, each of which ends the checking or calls the next; the alerts added at the end.
 ghost use mathlib.Core.Path.{_≡_};
+ghost use mathlib.Core.Bool.{true};
 ghost use mathlib.Core.List.{_++_};
+ghost use lib.ListN.{length};
 ghost use Rattle.records.specs.Hash.{fnv1a};
 ghost use Rattle.records.specs.Name.{nameOf};
+ghost use Rattle.checks.specs.Keys.{plainKey, reservationKey};
 ghost use Rattle.monitor.specs.Monitor.{monitorOf};
 ghost use Rattle.inspection.specs.InspectGoose.{streamFindings, retransmitted, gooseTimeField, gooseReservation, gooseUnknown};
-ghost use Rattle.inspection.specs.InspectGoose.{gooseTest, blocked, checkedGoose, inspectGoose};
+ghost use Rattle.inspection.specs.InspectGoose.{gooseReadBy, gooseTest, blocked, checkedGoose, inspectGoose};
 ghost use Rattle.inspection.specs.Report.{clockFindings, findingsOf, alertsOf, withVerdict};
 use crate::address::address_of;
+use crate::hijack::hijacked;
 use crate::report::CheckAlert;
 use crate::report::CheckAlerts;
 use crate::report::clock_alert;
-use crate::report::refused;
+use crate::report::one_alert;
 use crate::report::report_on;
 use crate::report::verdict_on;
 use checks::keys::goose_key;
 use checks::keys::plain_key;
-use checks::keys::reservation_key;
-use monitor::parts::check_cb_on;
 use monitor::parts::check_goose_seq_on;
 use monitor::parts::check_time_field_on;
 use monitor::parts::goose_publisher_count_on;
@@ -31,8 +33,6 @@ use monitor::settings::retx_schedule_on;
 use monitor::settings::time_max_forward_jump_s_on;
 use monitor::totals::GOOSE_TOTAL_INSPECTED;
 use monitor::totals::count_frame_on;
-use records::alert::AlertCode;
-use records::alert::AlertSeverity;
 use records::alert::SOURCE_IEC61850_GOOSE;
 use records::frame::GooseFrame;
 use records::hash::fnv1a_32;
@@ -57,10 +57,10 @@ fn stream_alert(replay: bool, outside: bool) -> CheckAlert
     ensures { λ r. ⌜ findingsOf r ≡ streamFindings replay outside ⌝ }
 {
     if replay {
-        return CheckAlert::Refusal(AlertSeverity::High, AlertCode::ReplayDetected);
+        return CheckAlert::GooseReplay;
     }
     if outside {
-        return CheckAlert::Notice(AlertSeverity::Medium, AlertCode::RetransmissionAnomaly);
+        return CheckAlert::Retransmission;
     }
     CheckAlert::Nothing
 }
@@ -101,24 +101,24 @@ fn goose_time_field(m: &mut [u64; 1218], n: GooseNumbers) -> CheckAlerts
 }
 
 // 11: the control block's reservation.
-fn goose_reservation(m: &mut [u64; 1218], reservation: &[u64; 10], n: GooseNumbers) -> CheckAlerts
+fn goose_reservation(m: &mut [u64; 1218], name: &[u8; 64], len: u8, n: GooseNumbers) -> CheckAlerts
     ensures { λ r. ⌜ record { monitor = monitorOf (now (m .exit)); answer = alertsOf r }
-        ≡ gooseReservation n (now (reservation .entry)) (monitorOf (now (m .entry))) ⌝ }
+        ≡ gooseReservation n (reservationKey true (nameOf (now (name .entry)) len)) (monitorOf (now (m .entry))) ⌝ }
 {
-    if check_cb_on(m, reservation, n.address) {
-        return refused(AlertSeverity::High, AlertCode::CbHijack);
+    if hijacked(m, true, name, len, n.address) {
+        return one_alert(CheckAlert::BoundElsewhere);
     }
     goose_time_field(m, n)
 }
 
 // 10: whether publishers exist and none fits.
-fn goose_unknown(m: &[u64; 1218], address: u64, publisher: &[u64; 10]) -> bool
-    ensures { λ r. ⌜ r ≡ gooseUnknown (monitorOf (now (m .entry))) address (now (publisher .entry)) ⌝ }
+fn goose_unknown(m: &[u64; 1218], address: u64, name: &[u8; 64], len: u8) -> bool
+    ensures { λ r. ⌜ r ≡ gooseUnknown (monitorOf (now (m .entry))) address (plainKey (nameOf (now (name .entry)) len)) ⌝ }
 {
     if goose_publisher_count_on(m) == 0 {
         return false;
     }
-    match goose_publisher_on(m, address, publisher) {
+    match goose_publisher_on(m, address, &plain_key(*name, len)) {
         Found::At(_) => false,
         Found::Nothing => true,
     }
@@ -134,28 +134,29 @@ fn goose_blocked(m: &[u64; 1218], test: bool) -> bool
     false
 }
 
-// The checks of a GOOSE frame, by the keys of its control block.
+// The checks of a GOOSE frame, by the octets of its control block's name: keys are made of them only where there are publishers or reservations.
 pub fn goose_checks_on(
     m: &mut [u64; 1218],
-    publisher: &[u64; 10],
-    reservation: &[u64; 10],
+    name: &[u8; 64],
+    len: u8,
     n: GooseNumbers,
 ) -> CheckAlerts
     ensures { λ r. ⌜ record { monitor = monitorOf (now (m .exit)); answer = alertsOf r }
-        ≡ gooseTest (monitorOf (now (m .entry))) (record { publisher = now (publisher .entry); reservation = now (reservation .entry); numbers = n }) ⌝ }
+        ≡ gooseTest (monitorOf (now (m .entry))) (gooseReadBy (nameOf (now (name .entry)) len) n) ⌝ }
 {
     if goose_blocked(m, n.test) {
-        return refused(AlertSeverity::Medium, AlertCode::PolicyViolation);
+        return one_alert(CheckAlert::TestBlocked);
     }
-    if goose_unknown(m, n.address, publisher) {
-        return refused(AlertSeverity::High, AlertCode::PolicyViolation);
+    if goose_unknown(m, n.address, name, len) {
+        return one_alert(CheckAlert::UnknownPublisher);
     }
-    goose_reservation(m, reservation, n)
+    goose_reservation(m, name, len, n)
 }
 
 // The hash of a frame's control block.
-pub fn name_hash(name: [u8; 64], len: u8) -> u32
-    ensures { λ r. ⌜ r ≡ fnv1a (nameOf name len) ⌝ }
+pub fn name_hash(name: &[u8], len: u8) -> u32
+    requires { ⌜ length (now name) ≡ 64 ⌝ }
+    ensures { λ r. ⌜ r ≡ fnv1a (nameOf (now (name .entry)) len) ⌝ }
 {
     let n = valid_len(len) as usize;
     fnv1a_32(&name[..n])
@@ -167,11 +168,9 @@ fn check_goose_on(m: &mut [u64; 1218], frame: GooseFrame) -> CheckAlerts
 {
     let src_mac = frame.src_mac;
     let go_cb_ref = frame.go_cb_ref;
-    let publisher = plain_key(go_cb_ref, frame.go_cb_ref_len);
-    let reservation = reservation_key(true, go_cb_ref, frame.go_cb_ref_len);
     let n = GooseNumbers {
         address: address_of(src_mac),
-        hash: name_hash(go_cb_ref, frame.go_cb_ref_len),
+        hash: name_hash(&go_cb_ref, frame.go_cb_ref_len),
         st_num: frame.st_num,
         sq_num: frame.sq_num,
         test: frame.test,
@@ -180,7 +179,7 @@ fn check_goose_on(m: &mut [u64; 1218], frame: GooseFrame) -> CheckAlerts
         fraction: frame.t_fraction_of_second,
     };
     count_frame_on(m, GOOSE_TOTAL_INSPECTED);
-    goose_checks_on(m, &publisher, &reservation, n)
+    goose_checks_on(m, &frame.go_cb_ref, frame.go_cb_ref_len, n)
 }
 
 // Inspects a GOOSE frame.

@@ -3,14 +3,13 @@
 ghost use mathlib.Core.Path.{_≡_};
 ghost use Rattle.monitor.specs.Monitor.{monitorOf};
 ghost use Rattle.monitor.specs.Settings.{strictMode};
-ghost use Rattle.inspection.specs.InspectMms.{controlKey, fullFindings, releases, mmsControl, mmsRate, mmsApplying, masked};
+ghost use Rattle.inspection.specs.InspectMms.{controlKey, fullFindings, releases, mmsControl, overRate, mmsRate, mmsApplying, masked};
 ghost use Rattle.inspection.specs.InspectMms.{mmsRule, mmsChecks, checkedMms, inspectMms};
 ghost use Rattle.inspection.specs.Report.{findingsOf, alertsOf, withVerdict};
 use crate::report::CheckAlert;
 use crate::report::CheckAlerts;
 use crate::report::RuleCheck;
 use crate::report::one_alert;
-use crate::report::refused;
 use crate::report::report_on;
 use crate::report::verdict_on;
 use checks::keys::reservation_key;
@@ -29,8 +28,6 @@ use monitor::settings::flag_on;
 use monitor::settings::setting_on;
 use monitor::totals::MMS_TOTAL_INSPECTED;
 use monitor::totals::count_frame_on;
-use records::alert::AlertCode;
-use records::alert::AlertSeverity;
 use records::alert::SOURCE_IEC61850_MMS;
 use records::frame::MmsFrame;
 use records::result::InspectResult;
@@ -65,14 +62,14 @@ fn mms_applying(m: &[u64; 1218], found: Found, write: bool) -> RuleCheck
     match found {
         Found::At(i) => {
             if rule_read_only_on(m, i) && write {
-                return RuleCheck::Refused(AlertSeverity::High, AlertCode::WriteProtection);
+                return RuleCheck::Refused(CheckAlert::WriteRefused);
             }
             RuleCheck::Rate(rule_rate_on(m, i))
         }
         Found::Nothing => {
             let count = mms_rule_count_on(m);
             if flag_on(m, STRICT_MODE) && count > 0 {
-                return RuleCheck::Refused(AlertSeverity::Medium, AlertCode::NoMatchingRule);
+                return RuleCheck::Refused(CheckAlert::NoRule);
             }
             RuleCheck::Rate(0)
         }
@@ -84,10 +81,10 @@ fn mms_rule(m: &[u64; 1218], raw: u8, write: bool) -> RuleCheck
     ensures { λ r. ⌜ r ≡ mmsRule (monitorOf (now (m .entry))) raw write ⌝ }
 {
     if masked(setting_on(m, MMS_SERVICE_MASK), raw) {
-        return RuleCheck::Refused(AlertSeverity::Medium, AlertCode::UnknownFunctionCode);
+        return RuleCheck::Refused(CheckAlert::ServiceMasked);
     }
     if flag_on(m, MMS_READ_ONLY) && write {
-        return RuleCheck::Refused(AlertSeverity::High, AlertCode::WriteProtection);
+        return RuleCheck::Refused(CheckAlert::WriteRefused);
     }
     let found = first_rule_on(m, raw);
     mms_applying(m, found, write)
@@ -100,7 +97,7 @@ fn full_alert(taken: bool) -> CheckAlert
     if taken {
         CheckAlert::Nothing
     } else {
-        CheckAlert::Notice(AlertSeverity::Low, AlertCode::ResourceExhausted)
+        CheckAlert::ReservationsFull
     }
 }
 
@@ -139,18 +136,25 @@ fn mms_control(m: &mut [u64; 1218], domain: &[u8; 64], n: MmsNumbers) -> CheckAl
     one_alert(CheckAlert::Nothing)
 }
 
+// Whether a request is over the rate of its rule; a rate of 0 is no limit.
+fn over_rate(m: &mut [u64; 1218], invoke_id: u32, rate: u16, now_us: u64) -> bool
+    ensures { λ r. ⌜ record { monitor = monitorOf (now (m .exit)); answer = r } ≡ overRate (monitorOf (now (m .entry))) «invoke_id» rate «now_us» ⌝ }
+{
+    if rate == 0 {
+        return false;
+    }
+    !rate_check_on(m, invoke_id, rate, now_us)
+}
+
 // 7: the bucket of a rule with a rate, then the control action.
 fn mms_rate(m: &mut [u64; 1218], domain: &[u8; 64], n: MmsNumbers, rate: u16) -> CheckAlerts
     ensures { λ r. ⌜ record { monitor = monitorOf (now (m .exit)); answer = alertsOf r }
         ≡ mmsRate (record { domain = now (domain .entry); numbers = n }) rate (monitorOf (now (m .entry))) ⌝ }
 {
-    if rate == 0 {
-        return mms_control(m, domain, n);
+    if over_rate(m, n.invoke_id, rate, n.timestamp_us) {
+        return one_alert(CheckAlert::OverRate);
     }
-    if rate_check_on(m, n.invoke_id, rate, n.timestamp_us) {
-        return mms_control(m, domain, n);
-    }
-    refused(AlertSeverity::Medium, AlertCode::RateExceeded)
+    mms_control(m, domain, n)
 }
 
 // The checks of an MMS frame.
@@ -159,7 +163,7 @@ pub fn mms_checks_on(m: &mut [u64; 1218], domain: &[u8; 64], n: MmsNumbers) -> C
         ≡ mmsChecks (monitorOf (now (m .entry))) (record { domain = now (domain .entry); numbers = n }) ⌝ }
 {
     match mms_rule(m, n.raw_service_type, n.write) {
-        RuleCheck::Refused(severity, code) => refused(severity, code),
+        RuleCheck::Refused(alert) => one_alert(alert),
         RuleCheck::Rate(rate) => mms_rate(m, domain, n, rate),
     }
 }

@@ -2,25 +2,27 @@
 // a31d888527 (Apache-2.0) and changed: a chain of stages on the monitor's words, each of which ends the checking or calls the next; the alerts
 // added at the end.
 ghost use mathlib.Core.Path.{_≡_};
-ghost use mathlib.Core.Bool.{cond};
+ghost use mathlib.Core.Bool.{false, cond};
 ghost use mathlib.Core.List.{[], _++_};
+ghost use Rattle.records.specs.Name.{nameOf};
+ghost use Rattle.checks.specs.Keys.{reservationKey};
 ghost use Rattle.monitor.specs.Monitor.{monitorOf};
+ghost use Rattle.monitor.specs.Parts.{cbOn};
 ghost use Rattle.inspection.specs.InspectSv.{rateFindings, countFindings, svRule, svTimeField, svReservation, svBinding};
-ghost use Rattle.inspection.specs.InspectSv.{checkedSv, inspectSv, inspectRawSv};
+ghost use Rattle.inspection.specs.InspectSv.{svReadBy, checkedSv, inspectSv, inspectRawSv};
 ghost use Rattle.inspection.specs.Report.{clockFindings, findingsOf, alertsOf, withVerdict};
 use crate::address::address_of;
+use crate::hijack::hijacked;
 use crate::report::CheckAlert;
 use crate::report::CheckAlerts;
 use crate::report::RuleCheck;
 use crate::report::clock_alert;
-use crate::report::refused;
+use crate::report::one_alert;
 use crate::report::report_on;
 use crate::report::verdict_on;
 use checks::keys::plain_key;
-use checks::keys::reservation_key;
 use checks::sv_publisher::PublisherMatch;
 use checks::sv_seq::SvSeqOutcome;
-use monitor::parts::check_cb_on;
 use monitor::parts::check_sv_seq_on;
 use monitor::parts::check_time_field_on;
 use monitor::parts::publisher_rate_on;
@@ -33,8 +35,6 @@ use monitor::settings::setting_on;
 use monitor::settings::time_max_forward_jump_s_on;
 use monitor::totals::SV_TOTAL_INSPECTED;
 use monitor::totals::count_frame_on;
-use records::alert::AlertCode;
-use records::alert::AlertSeverity;
 use records::alert::SOURCE_IEC61850_SV;
 use records::frame::SvFrame;
 use records::result::InspectResult;
@@ -62,16 +62,16 @@ fn count_alert(outcome: SvSeqOutcome, limit: u64) -> CheckAlert
 {
     match outcome {
         SvSeqOutcome::FirstSeen => CheckAlert::Nothing,
-        SvSeqOutcome::Replay => CheckAlert::Refusal(AlertSeverity::High, AlertCode::SvReplay),
+        SvSeqOutcome::Replay => CheckAlert::CountReplay,
         SvSeqOutcome::ForwardGap(gap) => {
             if limit > 0 && (gap as u64) > limit {
-                return CheckAlert::Refusal(AlertSeverity::Medium, AlertCode::SvRateAnomaly);
+                return CheckAlert::CountGap;
             }
             CheckAlert::Nothing
         }
         SvSeqOutcome::CycleWrap => CheckAlert::Nothing,
         SvSeqOutcome::SuspiciousSmpGap(_) => {
-            CheckAlert::Notice(AlertSeverity::Medium, AlertCode::SvRateAnomaly)
+            CheckAlert::SuspiciousCount
         }
     }
 }
@@ -92,7 +92,7 @@ fn rate_alert(replay: bool, frame_rate: u16, rate: u16) -> CheckAlert
     if frame_rate == rate {
         return CheckAlert::Nothing;
     }
-    CheckAlert::Refusal(AlertSeverity::Medium, AlertCode::SvRateAnomaly)
+    CheckAlert::RateMismatch
 }
 
 // The alerts of the clock, the count and the rate.
@@ -124,19 +124,31 @@ fn sv_time_field(m: &mut [u64; 1218], svid: &[u64; 10], n: SvNumbers, rate: u16)
     sv_alerts(clock, outcome, max_gap, n.smp_rate, rate)
 }
 
+// The use of a data set by an address, and whether it is bound to another. Most frames name none: no key is made of it.
+fn dataset_hijacked(m: &mut [u64; 1218], dataset: &[u8; 64], len: u8, address: u64) -> bool
+    ensures { λ r. ⌜ record { monitor = monitorOf (now (m .exit)); answer = r }
+        ≡ cbOn (monitorOf (now (m .entry))) (reservationKey false (nameOf (now (dataset .entry)) len)) address ⌝ }
+{
+    if len == 0 {
+        return false;
+    }
+    hijacked(m, false, dataset, len, address)
+}
+
 // 16: the data set's reservation.
 fn sv_reservation(
     m: &mut [u64; 1218],
     svid: &[u64; 10],
-    dataset: &[u64; 10],
+    dataset: &[u8; 64],
+    dataset_len: u8,
     n: SvNumbers,
     rate: u16,
 ) -> CheckAlerts
     ensures { λ r. ⌜ record { monitor = monitorOf (now (m .exit)); answer = alertsOf r }
-        ≡ svReservation (record { svid = now (svid .entry); dataset = now (dataset .entry); numbers = n }) rate (monitorOf (now (m .entry))) ⌝ }
+        ≡ svReservation (svReadBy (now (svid .entry)) (nameOf (now (dataset .entry)) «dataset_len») n) rate (monitorOf (now (m .entry))) ⌝ }
 {
-    if check_cb_on(m, dataset, n.address) {
-        return refused(AlertSeverity::High, AlertCode::CbHijack);
+    if dataset_hijacked(m, dataset, dataset_len, n.address) {
+        return one_alert(CheckAlert::BoundElsewhere);
     }
     sv_time_field(m, svid, n, rate)
 }
@@ -151,11 +163,11 @@ fn sv_rule(m: &[u64; 1218], address: u64, svid: &[u64; 10]) -> RuleCheck
     }
     match sv_publisher_on(m, address, svid) {
         PublisherMatch::WrongAddress => {
-            RuleCheck::Refused(AlertSeverity::High, AlertCode::IedMismatch)
+            RuleCheck::Refused(CheckAlert::WrongIed)
         }
         PublisherMatch::NotRegistered => {
             if flag_on(m, STRICT_MODE) {
-                return RuleCheck::Refused(AlertSeverity::Medium, AlertCode::PolicyViolation);
+                return RuleCheck::Refused(CheckAlert::UnknownSvid);
             }
             RuleCheck::Rate(0)
         }
@@ -163,19 +175,20 @@ fn sv_rule(m: &[u64; 1218], address: u64, svid: &[u64; 10]) -> RuleCheck
     }
 }
 
-// The checks of an SV frame, by the keys of its svID and data set.
+// The checks of an SV frame, by the key of its svID and the octets of its data set's name.
 pub fn sv_checks_on(
     m: &mut [u64; 1218],
     svid: &[u64; 10],
-    dataset: &[u64; 10],
+    dataset: &[u8; 64],
+    dataset_len: u8,
     n: SvNumbers,
 ) -> CheckAlerts
     ensures { λ r. ⌜ record { monitor = monitorOf (now (m .exit)); answer = alertsOf r }
-        ≡ svBinding (monitorOf (now (m .entry))) (record { svid = now (svid .entry); dataset = now (dataset .entry); numbers = n }) ⌝ }
+        ≡ svBinding (monitorOf (now (m .entry))) (svReadBy (now (svid .entry)) (nameOf (now (dataset .entry)) «dataset_len») n) ⌝ }
 {
     match sv_rule(m, n.address, svid) {
-        RuleCheck::Refused(severity, code) => refused(severity, code),
-        RuleCheck::Rate(rate) => sv_reservation(m, svid, dataset, n, rate),
+        RuleCheck::Refused(alert) => one_alert(alert),
+        RuleCheck::Rate(rate) => sv_reservation(m, svid, dataset, dataset_len, n, rate),
     }
 }
 
@@ -185,9 +198,6 @@ fn check_sv_on(m: &mut [u64; 1218], frame: SvFrame) -> CheckAlerts
 {
     let src_mac = frame.src_mac;
     let name = frame.svid;
-    let dataset_ref = frame.dataset_ref;
-    let svid = plain_key(name, frame.svid_len);
-    let dataset = reservation_key(false, dataset_ref, frame.dataset_ref_len);
     let n = SvNumbers {
         address: address_of(src_mac),
         seconds: frame.t_seconds_since_epoch,
@@ -196,7 +206,7 @@ fn check_sv_on(m: &mut [u64; 1218], frame: SvFrame) -> CheckAlerts
         smp_rate: frame.smp_rate,
     };
     count_frame_on(m, SV_TOTAL_INSPECTED);
-    sv_checks_on(m, &svid, &dataset, n)
+    sv_checks_on(m, &plain_key(name, frame.svid_len), &frame.dataset_ref, frame.dataset_ref_len, n)
 }
 
 // Inspects an SV frame.

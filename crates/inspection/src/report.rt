@@ -2,9 +2,10 @@
 // industrial/iec61850-monitor/src/lib.rs of craton-shield a31d888527 (Apache-2.0) and changed: alerts are added once, at the end.
 ghost use Prim.Native.Nat.{ℕ};
 ghost use mathlib.Core.Path.{_≡_};
-ghost use mathlib.Core.List.{[], _∷_, foldl};
+ghost use mathlib.Core.Bool.{_&&_, not};
+ghost use mathlib.Core.List.{foldl};
 ghost use Rattle.monitor.specs.Monitor.{monitorOf};
-ghost use Rattle.inspection.specs.Report.{refusal, clockFindings, reportedNext, alertsPushed, ended, reported, findingsOf, alertsOf};
+ghost use Rattle.inspection.specs.Report.{findingOf, findingsOf, alertsOf, clockFindings, reportedNext, alertsPushed, ended, reported};
 ghost use Rattle.inspection.specs.Report.{isNothing, noneFound, cleanVerdict, allowedOctet, alertNoted, withVerdict};
 use monitor::totals::alert_counters_on;
 use monitor::totals::set_alert_counters_on;
@@ -16,11 +17,26 @@ use records::result::AlertCounters;
 use records::result::InspectResult;
 use records::result::Pushed;
 
-// What a check found: nothing, an alert that refuses the frame, or one that alone does not.
+// What a check found: nothing, or the alert that it gives. A case is an octet, so that three of them are passed on for little.
 pub enum CheckAlert {
     Nothing,
-    Refusal(AlertSeverity, AlertCode),
-    Notice(AlertSeverity, AlertCode),
+    ServiceMasked,
+    WriteRefused,
+    OverRate,
+    NoRule,
+    ReservationsFull,
+    TestBlocked,
+    UnknownPublisher,
+    BoundElsewhere,
+    ClockAlert,
+    GooseReplay,
+    Retransmission,
+    WrongIed,
+    UnknownSvid,
+    CountReplay,
+    CountGap,
+    SuspiciousCount,
+    RateMismatch,
 }
 
 // What the checks of an inspection found, in their order: no inspection has more than three alerts.
@@ -32,7 +48,7 @@ pub struct CheckAlerts {
 
 // What the rules say of a frame: it is refused, or the rate that they give it, 0 for none.
 pub enum RuleCheck {
-    Refused(AlertSeverity, AlertCode),
+    Refused(CheckAlert),
     Rate(u16),
 }
 
@@ -47,39 +63,92 @@ pub fn one_alert(alert: CheckAlert) -> CheckAlerts
     }
 }
 
-// A frame refused with one alert.
-pub fn refused(severity: AlertSeverity, code: AlertCode) -> CheckAlerts
-    ensures { λ r. ⌜ alertsOf r ≡ refusal severity code ∷ [] ⌝ }
-{
-    one_alert(CheckAlert::Refusal(severity, code))
-}
-
 // A clock alert refuses, and checking goes on.
 pub fn clock_alert(alert: bool) -> CheckAlert
     ensures { λ r. ⌜ findingsOf r ≡ clockFindings alert ⌝ }
 {
     if alert {
-        CheckAlert::Refusal(AlertSeverity::High, AlertCode::TimeSyncSpoofing)
+        CheckAlert::ClockAlert
     } else {
         CheckAlert::Nothing
     }
 }
 
-// A result and the counters with one more alert, if a check found one.
-fn push_alert(p: Pushed, alert: CheckAlert, source_type: u8, source_id: u32, ts_us: u64) -> Pushed
-    ensures { λ r. ⌜ r ≡ foldl (reportedNext «source_type» «source_id» «ts_us») p (findingsOf alert) ⌝ }
+// The severity of an alert.
+fn severity_of(alert: CheckAlert) -> AlertSeverity
+    ensures { λ r. ⌜ r ≡ findingOf alert .severity ⌝ }
 {
-    let mut result = p.result;
-    let counters = p.counters;
     match alert {
-        CheckAlert::Nothing => p,
-        CheckAlert::Refusal(severity, code) => {
-            result.allowed = false;
-            result.push_alert_with_code(counters, severity, source_type, source_id, ts_us, code)
-        }
-        CheckAlert::Notice(severity, code) => {
-            result.push_alert_with_code(counters, severity, source_type, source_id, ts_us, code)
-        }
+        CheckAlert::Nothing => AlertSeverity::Info,
+        CheckAlert::ServiceMasked => AlertSeverity::Medium,
+        CheckAlert::WriteRefused => AlertSeverity::High,
+        CheckAlert::OverRate => AlertSeverity::Medium,
+        CheckAlert::NoRule => AlertSeverity::Medium,
+        CheckAlert::ReservationsFull => AlertSeverity::Low,
+        CheckAlert::TestBlocked => AlertSeverity::Medium,
+        CheckAlert::UnknownPublisher => AlertSeverity::High,
+        CheckAlert::BoundElsewhere => AlertSeverity::High,
+        CheckAlert::ClockAlert => AlertSeverity::High,
+        CheckAlert::GooseReplay => AlertSeverity::High,
+        CheckAlert::Retransmission => AlertSeverity::Medium,
+        CheckAlert::WrongIed => AlertSeverity::High,
+        CheckAlert::UnknownSvid => AlertSeverity::Medium,
+        CheckAlert::CountReplay => AlertSeverity::High,
+        CheckAlert::CountGap => AlertSeverity::Medium,
+        CheckAlert::SuspiciousCount => AlertSeverity::Medium,
+        CheckAlert::RateMismatch => AlertSeverity::Medium,
+    }
+}
+
+// Its code.
+fn code_of(alert: CheckAlert) -> AlertCode
+    ensures { λ r. ⌜ r ≡ findingOf alert .code ⌝ }
+{
+    match alert {
+        CheckAlert::Nothing => AlertCode::Unspecified,
+        CheckAlert::ServiceMasked => AlertCode::UnknownFunctionCode,
+        CheckAlert::WriteRefused => AlertCode::WriteProtection,
+        CheckAlert::OverRate => AlertCode::RateExceeded,
+        CheckAlert::NoRule => AlertCode::NoMatchingRule,
+        CheckAlert::ReservationsFull => AlertCode::ResourceExhausted,
+        CheckAlert::TestBlocked => AlertCode::PolicyViolation,
+        CheckAlert::UnknownPublisher => AlertCode::PolicyViolation,
+        CheckAlert::BoundElsewhere => AlertCode::CbHijack,
+        CheckAlert::ClockAlert => AlertCode::TimeSyncSpoofing,
+        CheckAlert::GooseReplay => AlertCode::ReplayDetected,
+        CheckAlert::Retransmission => AlertCode::RetransmissionAnomaly,
+        CheckAlert::WrongIed => AlertCode::IedMismatch,
+        CheckAlert::UnknownSvid => AlertCode::PolicyViolation,
+        CheckAlert::CountReplay => AlertCode::SvReplay,
+        CheckAlert::CountGap => AlertCode::SvRateAnomaly,
+        CheckAlert::SuspiciousCount => AlertCode::SvRateAnomaly,
+        CheckAlert::RateMismatch => AlertCode::SvRateAnomaly,
+    }
+}
+
+// Whether it refuses the frame.
+fn refuses(alert: CheckAlert) -> bool
+    ensures { λ r. ⌜ r ≡ findingOf alert .refuses ⌝ }
+{
+    match alert {
+        CheckAlert::Nothing => false,
+        CheckAlert::ServiceMasked => true,
+        CheckAlert::WriteRefused => true,
+        CheckAlert::OverRate => true,
+        CheckAlert::NoRule => true,
+        CheckAlert::ReservationsFull => false,
+        CheckAlert::TestBlocked => true,
+        CheckAlert::UnknownPublisher => true,
+        CheckAlert::BoundElsewhere => true,
+        CheckAlert::ClockAlert => true,
+        CheckAlert::GooseReplay => true,
+        CheckAlert::Retransmission => false,
+        CheckAlert::WrongIed => true,
+        CheckAlert::UnknownSvid => true,
+        CheckAlert::CountReplay => true,
+        CheckAlert::CountGap => true,
+        CheckAlert::SuspiciousCount => false,
+        CheckAlert::RateMismatch => true,
     }
 }
 
@@ -87,11 +156,35 @@ fn push_alert(p: Pushed, alert: CheckAlert, source_type: u8, source_id: u32, ts_
 fn is_nothing(alert: CheckAlert) -> bool
     ensures { λ r. ⌜ r ≡ isNothing alert ⌝ }
 {
-    match alert {
-        CheckAlert::Nothing => true,
-        CheckAlert::Refusal(_, _) => false,
-        CheckAlert::Notice(_, _) => false,
+    let code = code_of(alert);
+    code.code() == 0
+}
+
+// Whether a frame is still allowed after an alert that refuses it or does not.
+fn allowed_after(allowed: bool, refuses: bool) -> bool
+    ensures { λ r. ⌜ r ≡ allowed && not refuses ⌝ }
+{
+    if refuses { false } else { allowed }
+}
+
+// A result and the counters with one more alert, if a check found one.
+fn push_alert(p: Pushed, alert: CheckAlert, source_type: u8, source_id: u32, ts_us: u64) -> Pushed
+    ensures { λ r. ⌜ r ≡ foldl (reportedNext «source_type» «source_id» «ts_us») p (findingsOf alert) ⌝ }
+{
+    if is_nothing(alert) {
+        return p;
     }
+    let mut result = p.result;
+    let counters = p.counters;
+    result.allowed = allowed_after(result.allowed, refuses(alert));
+    result.push_alert_with_code(
+        counters,
+        severity_of(alert),
+        source_type,
+        source_id,
+        ts_us,
+        code_of(alert),
+    )
 }
 
 // Whether three checks found nothing.
@@ -162,19 +255,20 @@ pub struct Noted {
 }
 
 // The octet that says whether a frame is allowed, after an alert.
-fn allowed_octet(octet: u8, severity: AlertSeverity, refuses: bool) -> u8
-    ensures { λ r. ⌜ r ≡ allowedOctet octet severity refuses ⌝ }
+fn allowed_octet(octet: u8, alert: CheckAlert) -> u8
+    ensures { λ r. ⌜ r ≡ allowedOctet octet (findingOf alert .severity) (findingOf alert .refuses) ⌝ }
 {
-    if refuses {
+    if refuses(alert) {
         return 0;
     }
+    let severity = severity_of(alert);
     if severity.denies() { 0 } else { octet }
 }
 
 // A verdict with one more alert in the next of its three places, and the counters after it. One with three alerts is left: no inspection
 // has a fourth.
-fn note_alert(n: Noted, severity: AlertSeverity, code: AlertCode, refuses: bool) -> Noted
-    ensures { λ r. ⌜ r ≡ alertNoted n (record { severity = severity; code = code; refuses = refuses }) ⌝ }
+fn note_alert(n: Noted, alert: CheckAlert) -> Noted
+    ensures { λ r. ⌜ r ≡ alertNoted n (findingOf alert) ⌝ }
 {
     let mut verdict = n.verdict;
     let counters = n.counters;
@@ -184,7 +278,9 @@ fn note_alert(n: Noted, severity: AlertSeverity, code: AlertCode, refuses: bool)
         return n;
     }
     let at = 2 + 2 * count;
-    verdict[0] = allowed_octet(verdict[0], severity, refuses);
+    let code = code_of(alert);
+    let severity = severity_of(alert);
+    verdict[0] = allowed_octet(verdict[0], alert);
     verdict[1] = alert_count + 1;
     verdict[at] = code.code();
     verdict[at + 1] = severity.number();
@@ -201,11 +297,10 @@ fn note_alert(n: Noted, severity: AlertSeverity, code: AlertCode, refuses: bool)
 fn note_check(n: Noted, alert: CheckAlert) -> Noted
     ensures { λ r. ⌜ r ≡ foldl alertNoted n (findingsOf alert) ⌝ }
 {
-    match alert {
-        CheckAlert::Nothing => n,
-        CheckAlert::Refusal(severity, code) => note_alert(n, severity, code, true),
-        CheckAlert::Notice(severity, code) => note_alert(n, severity, code, false),
+    if is_nothing(alert) {
+        return n;
     }
+    note_alert(n, alert)
 }
 
 // The verdict that reports what the checks found, and the counters after it.

@@ -11,14 +11,14 @@ returns : tie.Need-returns
 unfolding gooseTest
 returns c =
     let b = c .before .before in
-    ends _ (c .refused .ensures) ∙ sym (cond-yes _ _ (answered (b .goose-blocked .ensures) (c .before .if1 .taken)))
+    ends _ (c .one-alert .ensures) ∙ sym (cond-yes _ _ (answered (b .goose-blocked .ensures) (c .before .if1 .taken)))
 
 returns-2 : tie.Need-returns-2
 unfolding gooseTest gooseAllowed
 returns-2 c =
     let u = c .before .before in
     let b = u .before .before in
-    ends _ (c .refused2 .ensures)
+    ends _ (c .one-alert2 .ensures)
     ∙ sym
     (cond-no _ _ (answered (b .before .goose-blocked .ensures) (b .if1 .left))
     ∙ cond-yes _ _ (answered (u .goose-unknown .ensures) (c .before .if2 .taken)))

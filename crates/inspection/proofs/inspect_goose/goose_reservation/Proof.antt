@@ -10,7 +10,7 @@ unfolding gooseReservation
 returns c =
     let k = c .before .before in
     let a = k .before .before .args in
-    hijack-ends (gooseTimeField (a .n)) (k .check-cb-on .ensures) (c .before .if1 .taken) (c .refused .ensures)
+    hijack-ends (gooseTimeField (a .n)) (k .hijacked .ensures) (c .before .if1 .taken) (c .one-alert .ensures)
 
 returns-2 : tie.Need-returns-2
 unfolding gooseReservation
@@ -18,7 +18,7 @@ returns-2 c =
     let e = c .before .before in
     let k = e .before in
     let a = k .before .before .args in
-    hijack-passed (gooseTimeField (a .n)) (k .check-cb-on .ensures) (e .if1 .left) (c .goose-time-field .ensures)
+    hijack-passed (gooseTimeField (a .n)) (k .hijacked .ensures) (e .if1 .left) (c .goose-time-field .ensures)
 
 pub goose-reservation-spec : {M : Type 1} → statement M
 goose-reservation-spec = tie.close (tie.spec (λ c κs. search needs) (λ c κs. search needs) returns (λ c κs. search needs) returns-2)

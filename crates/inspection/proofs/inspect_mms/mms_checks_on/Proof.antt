@@ -14,7 +14,7 @@ returns c =
     let a = k .before .before .args in
     let m = monitorOf (a .m .now) in
     let f : MmsRead = record { domain = a .domain .now; numbers = a .n } in
-    rules-refuse m (λ rate. mmsRate f rate m) (k .mms-rule .ensures) _ _ (x .severity .given .1) (c .refused .ensures)
+    rules-refuse m (λ rate. mmsRate f rate m) (k .mms-rule .ensures) _ (x .alert .given .1) (c .one-alert .ensures)
 
 returns-2 : tie.Need-returns-2
 unfolding mmsChecks

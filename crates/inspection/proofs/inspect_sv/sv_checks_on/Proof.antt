@@ -1,7 +1,8 @@
 -- `sv_checks_on` meets its contract.
 use borrow.Author.Needs.{needs}
+use Rattle.records.specs.Name.{nameOf}
 use Rattle.monitor.specs.Monitor.{monitorOf}
-use Rattle.inspection.specs.InspectSv.{SvRead, svReservation, svBinding}
+use Rattle.inspection.specs.InspectSv.{svReadBy, svReservation, svBinding}
 use Rattle.inspection.proofs.StageLaws.{rules-refuse, rules-permit}
 use Rattle.inspection.proofs.inspect_sv.sv_checks_on.Statement.{statement}
 use Rattle.inspection.proofs.inspect_sv.sv_checks_on.Tie as tie
@@ -13,8 +14,8 @@ returns c =
     let k = x .before .before in
     let a = k .before .before .args in
     let m = monitorOf (a .m .now) in
-    let f : SvRead = record { svid = a .svid .now; dataset = a .dataset .now; numbers = a .n } in
-    rules-refuse m (λ rate. svReservation f rate m) (k .sv-rule .ensures) _ _ (x .severity .given .1) (c .refused .ensures)
+    let f = svReadBy (a .svid .now) (nameOf (a .dataset .now) (a .dataset-len)) (a .n) in
+    rules-refuse m (λ rate. svReservation f rate m) (k .sv-rule .ensures) _ (x .alert .given .1) (c .one-alert .ensures)
 
 returns-2 : tie.Need-returns-2
 unfolding svBinding
@@ -23,7 +24,7 @@ returns-2 c =
     let k = x .before .before in
     let a = k .before .before .args in
     let m = monitorOf (a .m .now) in
-    let f : SvRead = record { svid = a .svid .now; dataset = a .dataset .now; numbers = a .n } in
+    let f = svReadBy (a .svid .now) (nameOf (a .dataset .now) (a .dataset-len)) (a .n) in
     rules-permit m (λ rate. svReservation f rate m) (k .sv-rule .ensures) _ (x .rate .given .1) (c .sv-reservation .ensures)
 
 pub sv-checks-on-spec : {M : Type 1} → statement M

@@ -1,47 +1,39 @@
 -- `push_alert` meets its contract.
-use mathlib.Core.Path.{_∙_}
 use borrow.Author.Needs.{needs}
-use Rattle.inspection.proofs.AlertLaws.{refusal-added, notice-added}
+use Rattle.records.proofs.Booleans.{answered}
+use mathlib.Core.Bool.{Bool, _&&_, not}
+use mathlib.Core.Path.{ap, _∙_}
+use Rattle.inspection.proofs.AlertLaws.{none-added, alert-added}
 use Rattle.inspection.proofs.report.push_alert.Statement.{statement}
 use Rattle.inspection.proofs.report.push_alert.Tie as tie
 
-enum-told : tie.Need-enum-told
-enum-told c = search needs
-
-enum-known-alert : tie.Need-enum-known-alert
-enum-known-alert c = search needs
-
-push-alert-with-code-requires : tie.Need-push-alert-with-code-requires
-push-alert-with-code-requires c κs = search needs
-
-enum-known-alert-2 : tie.Need-enum-known-alert-2
-enum-known-alert-2 c = search needs
-
-push-alert-with-code-requires-2 : tie.Need-push-alert-with-code-requires-2
-push-alert-with-code-requires-2 c κs = search needs
-
 returns : tie.Need-returns
-returns c = rw (c .enum-told .given .1)
+returns c =
+    let a = c .before .before .args in
+    none-added (a .source-type) (a .source-id) (a .ts-us) (a .p) (a .alert) (answered (c .before .is-nothing .ensures) (c .if1 .taken))
 
 returns-2 : tie.Need-returns-2
 returns-2 c =
-    let s = c .before .before .before .before .before .before in
-    rw (c .before .before .alert .given .1) (c .push-alert-with-code .ensures ∙ refusal-added _ _ _ (s .args .p) _ _)
-
-returns-3 : tie.Need-returns-3
-returns-3 c =
-    let s = c .before .before .before .before .before .before in
-    rw (c .before .before .alert2 .given .1) (c .push-alert-with-code2 .ensures ∙ notice-added _ _ _ (s .args .p) _ _)
+    let code = c .before in
+    let severity = code .before in
+    let allowed = severity .before in
+    let refuses = allowed .before in
+    let e = refuses .before .before .before in
+    let a = e .before .before .args in
+    let p = a .p in
+    alert-added (a .source-type) (a .source-id) (a .ts-us) p (a .alert) (answered (e .before .is-nothing .ensures) (e .if1 .left))
+    (allowed .allowed-after .ensures ∙ ap (λ (b : Bool). p .result .allowed && not b) (refuses .refuses .ensures)) (severity .severity-of .ensures)
+    (code .code-of .ensures) (c .push-alert-with-code .ensures)
 
 pub push-alert-spec : {M : Type 1} → statement M
-push-alert-spec =
+push-alert-spec = 
     tie.close
     (tie.spec
-    enum-told
-    enum-known-alert
-    push-alert-with-code-requires
-    enum-known-alert-2
-    push-alert-with-code-requires-2
+    (λ c κs. search needs)
     returns
-    returns-2
-    returns-3)
+    (λ c κs. search needs)
+    (λ c κs. search needs)
+    (λ c κs. search needs)
+    (λ c κs. search needs)
+    (λ c κs. search needs)
+    returns-2)
