@@ -19,7 +19,6 @@ use inspection::report::CheckAlerts;
 use inspection::report::verdict_on;
 use monitor::totals::GOOSE_TOTAL_INSPECTED;
 use monitor::totals::count_frame_on;
-use wire::number::octet_at;
 
 // What the checks read of a frame beside its control block's name.
 fn goose_numbers(o: &[u8]) -> GooseNumbers
@@ -28,10 +27,10 @@ fn goose_numbers(o: &[u8]) -> GooseNumbers
 {
     GooseNumbers {
         address: address_of(mac_at(o, 0)),
-        hash: name_hash(name_at(o, 6), octet_at(o, 70)),
+        hash: name_hash(name_at(o, 6), o[70]),
         st_num: u32_at(o, 72),
         sq_num: u32_at(o, 76),
-        test: octet_at(o, 80) != 0,
+        test: o[80] != 0,
         timestamp_us: u64_at(o, 88),
         seconds: u32_at(o, 96),
         fraction: u32_at(o, 100),
@@ -44,8 +43,8 @@ fn check_goose_lent(m: &mut [u64; 1218], o: &[u8]) -> CheckAlerts
     ensures { λ r. ⌜ record { monitor = monitorOf (now (m .exit)); answer = alertsOf r }
         ≡ checkedGoose (monitorOf (now (m .entry))) (gooseFrameOf (now (o .entry))) ⌝ }
 {
-    let publisher = plain_key(name_at(o, 6), octet_at(o, 70));
-    let reservation = reservation_key(true, name_at(o, 6), octet_at(o, 70));
+    let publisher = plain_key(name_at(o, 6), o[70]);
+    let reservation = reservation_key(true, name_at(o, 6), o[70]);
     let n = goose_numbers(o);
     count_frame_on(m, GOOSE_TOTAL_INSPECTED);
     goose_checks_on(m, &publisher, &reservation, n)

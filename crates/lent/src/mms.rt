@@ -15,23 +15,22 @@ use inspection::report::verdict_on;
 use monitor::totals::MMS_TOTAL_INSPECTED;
 use monitor::totals::count_frame_on;
 use records::service::MmsServiceType;
-use wire::number::octet_at;
 
 // What the checks read of a frame beside the name that a control action states.
 fn mms_numbers(o: &[u8]) -> MmsNumbers
     requires { ⌜ length (now o) ≡ 88 ⌝ }
     ensures { λ r. ⌜ r ≡ mmsRead (mmsFrameOf (now (o .entry))) .numbers ⌝ }
 {
-    let service = MmsServiceType::from_u8(octet_at(o, 0));
+    let service = MmsServiceType::from_u8(o[0]);
     MmsNumbers {
         service: service.number(),
         write: service.is_write(),
-        raw_service_type: octet_at(o, 1),
-        domain_len: octet_at(o, 66),
+        raw_service_type: o[1],
+        domain_len: o[66],
         invoke_id: u32_at(o, 68),
         timestamp_us: u64_at(o, 72),
         client_id: u32_at(o, 80),
-        control_block_is_goose: octet_at(o, 84) != 0,
+        control_block_is_goose: o[84] != 0,
     }
 }
 

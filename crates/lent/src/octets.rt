@@ -4,20 +4,18 @@ ghost use Prim.Native.Nat.{_+_, _≤_};
 ghost use mathlib.Core.Path.{_≡_};
 ghost use lib.ListN.{length};
 ghost use Rattle.lent.specs.Octets.{octetsAt, number16, number32, number64};
-use wire::number::octet_at;
 
-// The number in two octets. Places are small, so that no sum of them overflows.
+// The number in two octets.
 pub fn u16_at(octets: &[u8], at: usize) -> u16
-    requires { ⌜ at ≤ 1024 ⌝ }
+    requires { ⌜ at + 2 ≤ length (now octets) ⌝ }
     ensures { λ r. ⌜ r ≡ number16 (now (octets .entry)) at ⌝ }
 {
-    let low = octet_at(octets, at) as u16;
-    low + (octet_at(octets, at + 1) as u16) * 256
+    (octets[at] as u16) + (octets[at + 1] as u16) * 256
 }
 
 // The number in four octets.
 pub fn u32_at(octets: &[u8], at: usize) -> u32
-    requires { ⌜ at ≤ 512 ⌝ }
+    requires { ⌜ at + 4 ≤ length (now octets) ⌝ }
     ensures { λ r. ⌜ r ≡ number32 (now (octets .entry)) at ⌝ }
 {
     let low = u16_at(octets, at) as u32;
@@ -26,7 +24,7 @@ pub fn u32_at(octets: &[u8], at: usize) -> u32
 
 // The number in eight octets.
 pub fn u64_at(octets: &[u8], at: usize) -> u64
-    requires { ⌜ at ≤ 256 ⌝ }
+    requires { ⌜ at + 8 ≤ length (now octets) ⌝ }
     ensures { λ r. ⌜ r ≡ number64 (now (octets .entry)) at ⌝ }
 {
     let low = u32_at(octets, at) as u64;

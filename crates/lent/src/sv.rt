@@ -18,7 +18,6 @@ use inspection::report::CheckAlerts;
 use inspection::report::verdict_on;
 use monitor::totals::SV_TOTAL_INSPECTED;
 use monitor::totals::count_frame_on;
-use wire::number::octet_at;
 
 // What the checks read of a frame beside its names.
 fn sv_numbers(o: &[u8]) -> SvNumbers
@@ -40,8 +39,8 @@ fn check_sv_lent(m: &mut [u64; 1218], o: &[u8]) -> CheckAlerts
     ensures { λ r. ⌜ record { monitor = monitorOf (now (m .exit)); answer = alertsOf r }
         ≡ checkedSv (monitorOf (now (m .entry))) (svFrameOf (now (o .entry))) ⌝ }
 {
-    let svid = plain_key(name_at(o, 7), octet_at(o, 6));
-    let dataset = reservation_key(false, name_at(o, 77), octet_at(o, 76));
+    let svid = plain_key(name_at(o, 7), o[6]);
+    let dataset = reservation_key(false, name_at(o, 77), o[76]);
     let n = sv_numbers(o);
     count_frame_on(m, SV_TOTAL_INSPECTED);
     sv_checks_on(m, &svid, &dataset, n)

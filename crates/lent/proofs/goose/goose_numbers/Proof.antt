@@ -4,7 +4,7 @@ use mathlib.Core.Bool.{not}
 use borrow.Author.Needs.{needs}
 use lib.Dec.{eqb}
 use Rattle.records.specs.Hash.{fnv1a}
-use Rattle.records.specs.Name.{nameOf}
+use Rattle.records.specs.Name.{nameOf, octetAt}
 use Rattle.inspection.specs.Address.{addressOf}
 use Rattle.lent.specs.Goose.{gooseFrameOf}
 use Rattle.lent.proofs.goose.goose_numbers.Statement.{statement}
@@ -15,21 +15,20 @@ unfolding gooseFrameOf
 returns c =
     let seconds = c .before in
     let time = seconds .before in
-    let test = time .before in
-    let sequence = test .before in
+    let sequence = time .before .before in
     let state = sequence .before in
     let hash = state .before in
-    let length = hash .before in
-    let name = length .before in
+    let name = hash .before .before in
     let address = name .before in
+    let o = address .before .before .before .args .o .now in
     let a = address .address-of .ensures ∙ ap addressOf (address .before .mac-at .ensures) in
-    let h = hash .name-hash .ensures ∙ λ i. fnv1a (nameOf (name .name-at .ensures i) (length .octet-at .ensures i)) in
+    let h = hash .name-hash .ensures ∙ λ i. fnv1a (nameOf (name .name-at .ensures i) (octetAt o 70)) in
     λ i. record {
       address = a i;
       hash = h i;
       «st_num» = state .u32-at .ensures i;
       «sq_num» = sequence .u32-at2 .ensures i;
-      test = not (eqb (test .octet-at2 .ensures i) 0);
+      test = not (eqb (octetAt o 80) 0);
       «timestamp_us» = time .u64-at .ensures i;
       seconds = seconds .u32-at3 .ensures i;
       fraction = c .u32-at4 .ensures i;
@@ -42,11 +41,11 @@ goose-numbers-spec =
     (λ c κs. search needs)
     (λ c κs. search needs)
     (λ c κs. search needs)
+    (λ c. search needs)
     (λ c κs. search needs)
     (λ c κs. search needs)
     (λ c κs. search needs)
-    (λ c κs. search needs)
-    (λ c κs. search needs)
+    (λ c. search needs)
     (λ c κs. search needs)
     (λ c κs. search needs)
     (λ c κs. search needs)

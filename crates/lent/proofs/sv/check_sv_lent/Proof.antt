@@ -2,7 +2,7 @@
 use mathlib.Core.Path.{_∙_}
 use mathlib.Core.Bool.{false}
 use borrow.Author.Needs.{needs}
-use Rattle.records.specs.Name.{nameOf}
+use Rattle.records.specs.Name.{nameOf, octetAt}
 use Rattle.checks.specs.Keys.{plainKey, reservationKey}
 use Rattle.monitor.specs.Monitor.{monitorOf}
 use Rattle.inspection.proofs.StageLaws.{counted-checked}
@@ -17,14 +17,12 @@ returns c =
     let counted = c .before .before .before .before in
     let numbers = counted .before .before in
     let second = numbers .before in
-    let second-length = second .before in
-    let second-name = second-length .before in
+    let second-name = second .before .before in
     let first = second-name .before in
-    let first-length = first .before in
-    let first-name = first-length .before in
+    let first-name = first .before .before in
     let o = first-name .before .before .args .o .now in
-    let x = first .plain-key .ensures ∙ λ i. plainKey (nameOf (first-name .name-at .ensures i) (first-length .octet-at .ensures i)) in
-    let y = second .reservation-key .ensures ∙ λ i. reservationKey false (nameOf (second-name .name-at2 .ensures i) (second-length .octet-at2 .ensures i)) in
+    let x = first .plain-key .ensures ∙ λ i. plainKey (nameOf (first-name .name-at .ensures i) (octetAt o 6)) in
+    let y = second .reservation-key .ensures ∙ λ i. reservationKey false (nameOf (second-name .name-at2 .ensures i) (octetAt o 76)) in
     counted-checked (λ m. svBinding m (svRead (svFrameOf o))) (counted .count-frame-on .ensures)
     (c .sv-checks-on .ensures
     ∙ λ i. svBinding (monitorOf (counted .count-frame-on .last .0)) (record { svid = x i; dataset = y i; numbers = numbers .sv-numbers .ensures i }))
@@ -34,10 +32,10 @@ check-sv-lent-spec =
     tie.close
     (tie.spec
     (λ c κs. search needs)
+    (λ c. search needs)
     (λ c κs. search needs)
     (λ c κs. search needs)
-    (λ c κs. search needs)
-    (λ c κs. search needs)
+    (λ c. search needs)
     (λ c κs. search needs)
     (λ c κs. search needs)
     (λ c κs. search needs)
