@@ -1,6 +1,6 @@
 -- Laws of reservations: each way that a use, a SelectControl and a release go.
 use Prim.Native.Nat.{ℕ, _+_, _<_}
-use mathlib.Core.Bool.{true, false, not, cond}
+use mathlib.Core.Bool.{Bool, true, false, not, cond}
 use mathlib.Core.List.{List}
 use mathlib.Core.Path.{_≡_, sym, ap, _∙_}
 use native.Mathlib.Omega.{arith}
@@ -8,16 +8,17 @@ use borrow.Author.Tests.{eq-eqb, ne-eqb}
 use lib.Dec.{eqb}
 use lib.ListN.{getD, set}
 use Rattle.records.proofs.Booleans.{cond-yes, cond-no, answered}
-use Rattle.records.proofs.NameLaws.{overwritten-more, overwritten-out}
 use Rattle.records.specs.declared.search.Found.{Found}
 use Rattle.records.specs.declared.search.Found.the-variants.{At, Nothing}
-use Rattle.records.specs.Name.{overwritten}
+use Rattle.tables.proofs.OrderLaws.{rank-below}
+use Rattle.tables.proofs.PackedLaws.{packed-same}
 use Rattle.tables.specs.Column.{wordOf, wordSet}
 use Rattle.tables.specs.Named.{keyStored, named}
-use Rattle.tables.specs.Order.{rankOf, freeSlot}
+use Rattle.tables.specs.Order.{rankOf, rankSet, reranked, freeSlot}
+use Rattle.tables.specs.Packed.{packed}
 use Rattle.tables.specs.Place.{found}
 use Rattle.checks.specs.Reservation.{takenAt, placeOr, placeFor, reservedAt, reserved, ownedBy, ownedSlot}
-use Rattle.checks.specs.Reservation.{freedSlot, allFreed, released, CbChecked, boundAt, boundBy, cbChecked}
+use Rattle.checks.specs.Reservation.{freedSlot, freedRank, allFreed, released, CbChecked, boundAt, boundBy, cbChecked}
 
 -- ---- the use of a reservation
 
@@ -58,7 +59,7 @@ module _ (t key : List ℕ) {f : Found} (q : f ≡ found named t key) where
   place-free e s = s ∙ ap (λ x. placeOr x (freeSlot (rankOf t))) (answered e q)
 
 module _ (t key : List ℕ) (client : ℕ) where
-  pub taken : (i : ℕ) {a b c d e : List ℕ} → a ≡ keyStored t i key → b ≡ wordSet a 0 i 0 → c ≡ wordSet b 176 i client → d ≡ wordSet c 192 i 0
+  pub taken : (i : ℕ) {a b c d e : List ℕ} → a ≡ keyStored t i key → b ≡ rankSet a i 0 → c ≡ wordSet b 176 i client → d ≡ wordSet c 192 i 0
       → e ≡ wordSet d 208 i 0 → e ≡ takenAt t i key client
   unfolding takenAt
   taken i p q r s u = rw (u, s, r, q, p)
@@ -74,25 +75,26 @@ module _ (t key : List ℕ) (client : ℕ) where
 
 -- ---- a release
 
-module _ (t : List ℕ) (client : ℕ) where
-  -- the rank of a slot, 16 if its client is this one
-  abbrev pub freedRank : ℕ → ℕ
-  freedRank i = cond (ownedBy t client i) 16 (rankOf t i)
+module _ (t : List ℕ) (client i : ℕ) where
+  pub freed-owned : getD t (176 + i) 0 ≡ client → 16 ≡ freedRank t client i
+  freed-owned e = sym (cond-yes _ _ (eq-eqb (getD t (176 + i) 0) client e))
 
-  module _ (i : ℕ) {out : List ℕ} (o : out ≡ overwritten t 0 freedRank i) (h : i < 16) where
-    owner-same : getD out (176 + i) 0 ≡ getD t (176 + i) 0
-    owner-same = ap (λ (l : List ℕ). getD l (176 + i) 0) o ∙ overwritten-out t 0 freedRank i (176 + i) (λ j l q. omega arith)
+  pub freed-other : (getD t (176 + i) 0 ≡ client → ⊥) → {r : ℕ} → r ≡ rankOf t i → r ≡ freedRank t client i
+  freed-other n q = q ∙ sym (cond-no _ _ (ne-eqb (getD t (176 + i) 0) client n))
 
-    rank-same : getD out i 0 ≡ getD t i 0
-    rank-same = ap (λ (l : List ℕ). getD l i 0) o ∙ overwritten-out t 0 freedRank i i (λ j l q. omega arith)
+  pub freed-octet : freedRank t client i < 256
+  freed-octet = go (ownedBy t client i)
+    where
+      go : (b : Bool) → cond b 16 (rankOf t i) < 256
+      go true = omega arith
+      go false = omega (arith, rank-below t i)
 
-    pub freed-owned : {v : ℕ} → getD out (176 + i) 0 ≡ client → v ≡ 16 → set out i v ≡ overwritten t 0 freedRank (i + 1)
-    freed-owned e q = overwritten-more t freedRank 0 i o (omega arith) (q ∙ sym (cond-yes _ _ (eq-eqb (getD t (176 + i) 0) client (sym owner-same ∙ e))))
-
-    pub freed-other : {v : ℕ} → (getD out (176 + i) 0 ≡ client → ⊥) → v ≡ getD out i 0 → set out i v ≡ overwritten t 0 freedRank (i + 1)
-    freed-other n q =
-        overwritten-more t freedRank 0 i o (omega arith)
-        (q ∙ rank-same ∙ sym (cond-no _ _ (ne-eqb (getD t (176 + i) 0) client (λ e. n (owner-same ∙ e)))))
+-- both words, of eight slots each
+pub all-freed : (t : List ℕ) (client : ℕ) {first second : ℕ} → first ≡ packed (λ j. freedRank t client (0 + j)) 8
+    → second ≡ packed (λ j. freedRank t client (8 + j)) 8 → set (set t 0 first) 1 second ≡ allFreed t client
+unfolding allFreed reranked
+all-freed t client p q =
+    rw (p ∙ packed-same (λ j. freedRank t client (0 + j)) (freedRank t client) 8 (λ j l. ap (freedRank t client) (omega arith)), q)
 
 module _ (t key : List ℕ) (client : ℕ) where
   pub released-all : {u : List ℕ} → getD key 1 0 ≡ 0 → u ≡ allFreed t client → u ≡ released t key client
@@ -100,7 +102,7 @@ module _ (t key : List ℕ) (client : ℕ) where
   released-all e p = p ∙ sym (cond-yes _ _ (eq-eqb (getD key 1 0) 0 e))
 
   module _ (n : getD key 1 0 ≡ 0 → ⊥) {f : Found} (q : f ≡ ownedSlot t key client) where
-    pub released-at : {i : ℕ} {u : List ℕ} → f ≡ At i → u ≡ wordSet t 0 i 16 → u ≡ released t key client
+    pub released-at : {i : ℕ} {u : List ℕ} → f ≡ At i → u ≡ rankSet t i 16 → u ≡ released t key client
     unfolding released
     released-at e p = p ∙ ap (freedSlot t) (answered e q) ∙ sym (cond-no _ _ (ne-eqb (getD key 1 0) 0 n))
 

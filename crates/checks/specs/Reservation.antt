@@ -9,12 +9,12 @@ use Rattle.records.specs.declared.search.Found.the-variants.{At, Nothing}
 use Rattle.records.specs.Search.{first}
 use Rattle.tables.specs.Column.{wordOf, wordSet}
 use Rattle.tables.specs.Named.{hasKey, keyStored, named}
-use Rattle.tables.specs.Order.{rankOf, inUse, reranked, freeSlot}
+use Rattle.tables.specs.Order.{rankOf, inUse, rankSet, reranked, freeSlot}
 use Rattle.tables.specs.Place.{found}
 
 -- a slot with a client's reservation that is not bound; it is in use, with rank 0
 unfoldable pub takenAt : List ℕ → ℕ → List ℕ → ℕ → List ℕ
-takenAt t i key client = wordSet (wordSet (wordSet (wordSet (keyStored t i key) 0 i 0) 176 i client) 192 i 0) 208 i 0
+takenAt t i key client = wordSet (wordSet (wordSet (rankSet (keyStored t i key) i 0) 176 i client) 192 i 0) 208 i 0
 
 -- the slot that a SelectControl takes: the one of that name and kind, taken over, or the first free one
 abbrev pub placeOr : Found → Found → Found
@@ -47,12 +47,16 @@ ownedSlot t key client = first (λ i. hasKey t key i && (inUse (rankOf t) i && o
 
 -- that slot freed, if there is one
 abbrev pub freedSlot : List ℕ → Found → List ℕ
-freedSlot t (At i) = wordSet t 0 i 16
+freedSlot t (At i) = rankSet t i 16
 freedSlot t Nothing = t
+
+-- the rank of a slot, 16 if its client is this one
+abbrev pub freedRank : List ℕ → ℕ → ℕ → ℕ
+freedRank t client i = cond (ownedBy t client i) 16 (rankOf t i)
 
 -- every slot of a client freed
 unfoldable pub allFreed : List ℕ → ℕ → List ℕ
-allFreed t client = reranked t (λ i. cond (ownedBy t client i) 16 (rankOf t i))
+allFreed t client = reranked t (freedRank t client)
 
 -- Cancel or Conclude frees a name of the same client, with an empty name all of that client's of both kinds
 unfoldable pub released : List ℕ → List ℕ → ℕ → List ℕ

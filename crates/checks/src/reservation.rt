@@ -1,8 +1,10 @@
 // Reservations of control blocks, carried over from industrial/iec61850-monitor/src/lib.rs of craton-shield a31d888527 (Apache-2.0) and
 // changed: a table by name, whose numbers are the kinds, 1 for GOOSE and 0 for SV. Entries are not aged: a slot in use has rank 0.
 ghost use mathlib.Core.Path.{_≡_};
+ghost use Prim.Native.Nat.{_+_, _≤_, _<_};
 ghost use lib.ListN.{length};
-ghost use Rattle.checks.specs.Reservation.{boundAt, cbChecked, placeFor, takenAt, reserved, ownedSlot, allFreed, released};
+ghost use Rattle.tables.specs.Packed.{packed};
+ghost use Rattle.checks.specs.Reservation.{boundAt, cbChecked, placeFor, takenAt, reserved, ownedSlot, freedRank, allFreed, released};
 use records::search::Found;
 use tables::column::set_word;
 use tables::column::word;
@@ -11,6 +13,8 @@ use tables::named::find_key;
 use tables::named::has_key;
 use tables::named::store_key;
 use tables::order::free_slot;
+use tables::order::rank_at;
+use tables::order::set_rank;
 
 // Where the clients stand, whether a reservation is bound, and to which address.
 const OWNERS: usize = VALUES;
@@ -63,7 +67,7 @@ fn take_at(t: &mut [u64], slot: usize, key: &[u64; 10], client: u32)
     ensures { λ _. ⌜ now (t .exit) ≡ takenAt (now (t .entry)) slot (now (key .entry)) client ⌝ }
 {
     store_key(t, slot, key);
-    set_word(t, 0, slot, 0);
+    set_rank(t, slot, 0);
     set_word(t, OWNERS, slot, client as u64);
     set_word(t, BOUND, slot, 0);
     set_word(t, ADDRESSES, slot, 0);
@@ -93,11 +97,36 @@ fn owned_slot(t: &[u64], key: &[u64; 10], client: u32) -> Found
         if i >= 16 {
             break Found::Nothing;
         }
-        if has_key(t, i, key) && t[i] < 16 && t[OWNERS + i] == (client as u64) {
+        if has_key(t, i, key) && rank_at(t, i) < 16 && t[OWNERS + i] == (client as u64) {
             break Found::At(i);
         }
         i += 1;
     }
+}
+
+// The rank of a slot, 16 if its client is this one.
+fn freed_rank(t: &[u64], slot: usize, client: u32) -> u64
+    requires { ⌜ (length (now t) ≡ 224) × (slot < 16) ⌝ }
+    ensures { λ r. ⌜ r ≡ freedRank (now (t .entry)) client slot ⌝ }
+{
+    if t[OWNERS + slot] == (client as u64) {
+        return 16;
+    }
+    rank_at(t, slot)
+}
+
+// The word of these ranks for eight slots, made from the last octet on.
+fn freed_word(t: &[u64], start: usize, client: u32) -> u64
+    requires { ⌜ (length (now t) ≡ 224) × (start ≤ 8) ⌝ }
+    ensures { λ r. ⌜ r ≡ packed (λ j. freedRank (now (t .entry)) client (start + j)) 8 ⌝ }
+{
+    let mut out: u64 = 0;
+    let mut k: usize = 8;
+    while k > 0 {
+        k -= 1;
+        out = freed_rank(t, start + k, client) + 256 * out;
+    }
+    out
 }
 
 // Frees every slot of a client.
@@ -105,12 +134,10 @@ fn free_all(t: &mut [u64], client: u32)
     requires { ⌜ length (now t) ≡ 224 ⌝ }
     ensures { λ _. ⌜ now (t .exit) ≡ allFreed (now (t .entry)) client ⌝ }
 {
-    let owner = client as u64;
-    let mut i: usize = 0;
-    while i < 16 {
-        t[i] = if t[OWNERS + i] == owner { 16 } else { t[i] };
-        i += 1;
-    }
+    let first = freed_word(t, 0, client);
+    let second = freed_word(t, 8, client);
+    t[0] = first;
+    t[1] = second;
 }
 
 // A Cancel or Conclude frees a name of the same client, with an empty name all of that client's of both kinds.
@@ -123,7 +150,7 @@ pub fn release_cb_in(t: &mut [u64], key: &[u64; 10], client: u32)
         return;
     }
     match owned_slot(t, key, client) {
-        Found::At(i) => set_word(t, 0, i, 16),
+        Found::At(i) => set_rank(t, i, 16),
         Found::Nothing => {}
     }
 }

@@ -15,14 +15,11 @@ use Rattle.records.proofs.NameLaws.{tabulate-at, tabulate-same, padded-at, leng
 use Rattle.records.proofs.OctetLaws.{octets-take}
 use Rattle.records.specs.Legal.{Octets, OctetArray}
 use Rattle.records.specs.Name.{validLen, nameOf, tabulate, octetAt, padded, overwritten}
-use Rattle.tables.specs.Key.{packed, nameWord, summed, keyOf}
+use Rattle.tables.proofs.PackedLaws.{packed-same}
+use Rattle.tables.specs.Key.{nameWord, summed, keyOf}
+use Rattle.tables.specs.Packed.{packed}
 
 -- ---- the words of a name
-
-pub packed-same : (f g : ℕ → ℕ) (n : ℕ) → ((k : ℕ) → k < n → f k ≡ g k) → packed f n ≡ packed g n
-unfolding packed
-packed-same f g zero e = refl
-packed-same f g (suc n) e = rw (e 0 (omega arith), packed-same (λ k. f (suc k)) (λ k. g (suc k)) n (λ k l. e (suc k) (omega arith)))
 
 summed-same : (number : ℕ) (f g : ℕ → ℕ) (n : ℕ) → ((k : ℕ) → k < n → f k ≡ g k) → summed number f n ≡ summed number g n
 unfolding summed

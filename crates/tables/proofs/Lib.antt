@@ -1,3 +1,5 @@
+pub mod PackedLaws
+pub mod RankWordLaws
 pub mod OrderLaws
 pub mod PlaceLaws
 pub mod NumberedLaws

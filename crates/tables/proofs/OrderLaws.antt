@@ -1,122 +1,281 @@
--- Laws of the ranks of a table: one slot at a time, as a loop goes, and each way out of a use and of forgetting.
-use Prim.Native.Nat.{ℕ, _+_, _≤_, _<_}
-use mathlib.Core.Bool.{cond}
+-- Laws of the ranks of a table: read, replaced all at once or one of them, and each way out of a use and of forgetting.
+use Prim.Native.Nat.{ℕ, zero, suc, _+_, _-_, _*_, _/_, _%_, _≤_, _<_}
+use mathlib.Core.Bool.{Bool, true, false, cond, not, _&&_}
 use mathlib.Core.List.{List}
-use mathlib.Core.Logic.{by-cases}
+use mathlib.Core.Logic.{_≢_, by-cases}
 use mathlib.Core.Path.{_≡_, refl, sym, ap, _∙_}
 use native.Mathlib.Decide.{ℕ-discrete, decLt}
-use native.Mathlib.Nat.{zero-add}
 use native.Mathlib.Omega.{arith}
-use borrow.Author.Tests.{lt-ltb, le-ltb, eq-eqb, ne-eqb}
-use lib.Dec.{eqb}
+use borrow.Author.Tests.{lt-ltb, le-ltb, eq-eqb, ne-eqb, eqb-true}
+use lib.Dec.{eqb, ltb}
 use lib.ListN.{length, getD, set, length-set}
 use lib.Seq.{getD-set-same, getD-set-other, ext-getD}
-use Rattle.records.proofs.Booleans.{cond-yes, cond-no, and-no, and-yes}
-use Rattle.records.proofs.NameLaws.{length-overwritten, overwritten-more, overwritten-in, overwritten-out, overwritten-again}
-use Rattle.records.specs.Name.{overwritten}
-use Rattle.tables.specs.Order.{rankOf, raised, lowered, usedRank, forgottenRank, reranked, usedSlot, forgottenSlot}
+use Rattle.records.proofs.Booleans.{cond-yes, cond-no, and-no, and-yes, and-both}
+use Rattle.tables.proofs.PackedLaws.{packed-same, packed-octet, beside-below}
+use Rattle.tables.specs.Order.{inUse, raised, lowered, usedRank, forgottenRank, rankIn, rankOf, reranked}
+use Rattle.tables.specs.Order.{rankSet, usedSlot, forgottenSlot, freeWord, allFree}
+use Rattle.tables.specs.Packed.{packed, octetOf, beside}
+
+-- ---- ranks read
+
+pub rank-below : (t : List ℕ) (i : ℕ) → rankOf t i < 128
+unfolding rankOf
+rank-below t i = omega arith
+
+-- ranks are read from the first two words
+pub rank-same : (t u : List ℕ) (i : ℕ) → i < 16 → ((x : ℕ) → x < 2 → getD u x 0 ≡ getD t x 0) → rankOf u i ≡ rankOf t i
+unfolding rankOf
+rank-same t u i h e = ap (λ (w : ℕ). rankIn w (i % 8)) (e (i / 8) (omega arith))
+
+rank-word : (t : List ℕ) (h j i : ℕ) → j < 8 → i ≡ h * 8 + j → rankOf t i ≡ rankIn (getD t h 0) j
+unfolding rankOf
+rank-word t h j i l e =
+    let a : i / 8 ≡ h = omega arith in
+    let b : i % 8 ≡ j = omega arith in
+    rw (a, b)
+
+-- words of free slots
+module _ (t : List ℕ) (e : allFree t ≡ true) where
+  free-word : (x : ℕ) → x < 2 → getD t x 0 ≡ packed (λ k. 16) 8
+  unfolding allFree packed
+  free-word zero l = eqb-true (getD t 0 0) freeWord (and-both (eqb (getD t 0 0) freeWord) _ e .0)
+  free-word (suc zero) l = eqb-true (getD t 1 0) freeWord (and-both (eqb (getD t 0 0) freeWord) _ e .1)
+  free-word (suc (suc x)) l = absurd (omega arith)
+
+  pub free-rank : (i : ℕ) → i < 16 → rankOf t i ≡ 16
+  unfolding rankOf
+  free-rank i h =
+      let o = packed-octet (λ k. 16) 8 (i % 8) (λ k l. omega arith) (omega arith) in
+      ap (λ (w : ℕ). rankIn w (i % 8)) (free-word (i / 8) (omega arith)) ∙ omega (arith, o)
+
+  pub none-in-use : (i : ℕ) → i < 16 → inUse (rankOf t) i ≡ false
+  none-in-use i h = le-ltb (rankOf t i) 16 (omega (arith, free-rank i h))
+
+-- ---- ranks replaced
+
+-- a table whose ranks alone were changed
+pub record OnlyRanks (t u : List ℕ) : Type 0 where
+  pub size : length u ≡ length t
+  pub rest : (x : ℕ) → 2 ≤ x → getD u x 0 ≡ getD t x 0
 
 module _ (t : List ℕ) (f : ℕ → ℕ) where
   pub length-reranked : length (reranked t f) ≡ length t
-  length-reranked = length-overwritten t f 0 16
+  unfolding reranked
+  length-reranked = simp length-set refl
 
-  pub reranked-in : 16 ≤ length t → (i : ℕ) → i < 16 → rankOf (reranked t f) i ≡ f i
-  reranked-in z i l = rw zero-add at (overwritten-in t 0 f 16 i l (omega arith))
+  pub reranked-out : (x : ℕ) → 2 ≤ x → getD (reranked t f) x 0 ≡ getD t x 0
+  unfolding reranked
+  reranked-out x o = getD-set-other (set t 0 (packed f 8)) 1 x _ 0 (λ q. omega arith) ∙ getD-set-other t 0 x (packed f 8) 0 (λ q. omega arith)
 
-  pub reranked-out : (x : ℕ) → 16 ≤ x → getD (reranked t f) x 0 ≡ getD t x 0
-  reranked-out x o = overwritten-out t 0 f 16 x (λ j l q. omega arith)
+  pub reranked-only : OnlyRanks t (reranked t f)
+  reranked-only = record { size = length-reranked; rest = reranked-out }
 
--- the rank of one slot set beside the others
-module _ (t : List ℕ) (f : ℕ → ℕ) (z : 16 ≤ length t) (s v : ℕ) (h : s < 16) where
-  abbrev beside : ℕ → ℕ
-  beside i = cond (eqb i s) v (f i)
+  pub reranked-if : (b : Bool) → OnlyRanks t (cond b (reranked t f) t)
+  reranked-if true = reranked-only
+  reranked-if false = record { size = refl; rest = λ x o. refl }
 
-  reranked-set : set (reranked t f) s v ≡ reranked t beside
-  reranked-set =
-      ext-getD 0 (set (reranked t f) s v) (reranked t beside) (simp length-set (length-reranked t f ∙ sym (length-reranked t beside))) (λ x l.
-      by-cases (decLt x 16) (λ p. within x p (ℕ-discrete x s)) (λ p.
-      getD-set-other (reranked t f) s x v 0 (λ q. omega arith) ∙ reranked-out t f x (omega arith) ∙ sym (reranked-out t beside x (omega arith))))
+  module _ (z : 2 ≤ length t) where
+    reranked-word : (h : ℕ) → h < 2 → getD (reranked t f) h 0 ≡ packed (λ j. f (h * 8 + j)) 8
+    unfolding reranked
+    reranked-word zero l =
+        getD-set-other (set t 0 (packed f 8)) 1 0 _ 0 (λ q. omega arith) ∙ getD-set-same t 0 (packed f 8) 0 (omega arith)
+        ∙ packed-same f (λ j. f (0 * 8 + j)) 8 (λ j m. ap f (omega arith))
+    reranked-word (suc zero) l = getD-set-same (set t 0 (packed f 8)) 1 (packed (λ j. f (8 + j)) 8) 0 (simp length-set (omega arith))
+    reranked-word (suc (suc h)) l = absurd (omega arith)
+
+    reranked-place : ((i : ℕ) → i < 16 → f i < 128) → (h j : ℕ) → h < 2 → j < 8 → octetOf (getD (reranked t f) h 0) j ≡ f (h * 8 + j)
+    reranked-place b h j l m =
+        ap (λ (w : ℕ). octetOf w j) (reranked-word h l) ∙ packed-octet (λ k. f (h * 8 + k)) 8 j (λ k n. omega (arith, b (h * 8 + k) (omega arith))) m
+
+    pub reranked-octet : ((i : ℕ) → i < 16 → f i < 128) → (i : ℕ) → i < 16 → octetOf (getD (reranked t f) (i / 8) 0) (i % 8) ≡ f i
+    reranked-octet b i l =
+        let e : i / 8 * 8 + i % 8 ≡ i = omega arith in
+        reranked-place b (i / 8) (i % 8) (omega arith) (omega arith) ∙ ap f e
+
+    pub reranked-in : ((i : ℕ) → i < 16 → f i < 128) → (i : ℕ) → i < 16 → rankOf (reranked t f) i ≡ f i
+    unfolding rankOf
+    reranked-in b i l = omega (arith, reranked-octet b i l, b i l)
+
+-- the rank of one slot replaced in its word
+module _ (t : List ℕ) (f : ℕ → ℕ) (z : 2 ≤ length t) (b : (i : ℕ) → i < 16 → f i < 128) (s v : ℕ) (h : s < 16) where
+  abbrev besideWord : ℕ
+  besideWord = packed (beside (octetOf (getD (reranked t f) (s / 8) 0)) (s % 8) v) 8
+
+  beside-here : besideWord ≡ packed (λ j. beside f s v (s / 8 * 8 + j)) 8
+  beside-here = packed-same _ _ 8 (λ j l. go j l (ℕ-discrete j (s % 8)))
     where
-      within : (x : ℕ) → x < 16 → Dec (x ≡ s) → getD (set (reranked t f) s v) x 0 ≡ getD (reranked t beside) x 0
-      within x p (yes q) =
-          ap (λ (y : ℕ). getD (set (reranked t f) s v) y 0) q
-          ∙ getD-set-same (reranked t f) s v 0 (omega (arith, length-reranked t f))
-          ∙ sym (reranked-in t beside z x p ∙ cond-yes _ _ (eq-eqb x s q))
-      within x p (no q) =
-          getD-set-other (reranked t f) s x v 0 q ∙ reranked-in t f z x p ∙ sym (reranked-in t beside z x p ∙ cond-no _ _ (ne-eqb x s q))
+      go : (j : ℕ) → j < 8 → Dec (j ≡ s % 8) → beside (octetOf (getD (reranked t f) (s / 8) 0)) (s % 8) v j ≡ beside f s v (s / 8 * 8 + j)
+      go j l (yes e) = cond-yes _ _ (eq-eqb j (s % 8) e) ∙ sym (cond-yes _ _ (eq-eqb (s / 8 * 8 + j) s (omega arith)))
+      go j l (no n) =
+          cond-no _ _ (ne-eqb j (s % 8) n) ∙ reranked-place t f z b (s / 8) j (omega arith) l
+          ∙ sym (cond-no _ _ (ne-eqb (s / 8 * 8 + j) s (λ q. n (omega arith))))
 
--- the ranks of the slots passed changed, each by what it was
-reranked-more : (t : List ℕ) (f : ℕ → ℕ) (i : ℕ) {v : ℕ} {out : List ℕ} → out ≡ overwritten t 0 (λ j. f (rankOf t j)) i → v ≡ f (rankOf out i)
-    → set out i v ≡ overwritten t 0 (λ j. f (rankOf t j)) (i + 1)
-reranked-more t f i o e =
-    overwritten-more t (λ j. f (rankOf t j)) 0 i o (omega arith)
-    (e ∙ ap f (ap (λ (l : List ℕ). rankOf l i) o ∙ overwritten-out t 0 (λ j. f (rankOf t j)) i i (λ j l q. omega arith)))
+  reranked-word-set : set (reranked t f) (s / 8) besideWord ≡ reranked t (beside f s v)
+  reranked-word-set =
+      ext-getD 0 (set (reranked t f) (s / 8) besideWord) (reranked t (beside f s v))
+      (simp length-set (length-reranked t f ∙ sym (length-reranked t (beside f s v)))) (λ x l.
+      by-cases (decLt x 2) (λ p. within x p (ℕ-discrete x (s / 8))) (λ p.
+      getD-set-other (reranked t f) (s / 8) x besideWord 0 (λ q. omega arith) ∙ reranked-out t f x (omega arith)
+      ∙ sym (reranked-out t (beside f s v) x (omega arith))))
+    where
+      within : (x : ℕ) → x < 2 → Dec (x ≡ s / 8) → getD (set (reranked t f) (s / 8) besideWord) x 0 ≡ getD (reranked t (beside f s v)) x 0
+      within x p (yes q) =
+          rw q (getD-set-same (reranked t f) (s / 8) besideWord 0 (omega (arith, length-reranked t f)) ∙ beside-here)
+          ∙ sym (reranked-word t (beside f s v) z x p)
+      within x p (no q) =
+          getD-set-other (reranked t f) (s / 8) x besideWord 0 q ∙ reranked-word t f z x p
+          ∙ packed-same _ _ 8 (λ j l. sym (cond-no _ _ (ne-eqb (x * 8 + j) s (λ e. q (omega arith)))))
+          ∙ sym (reranked-word t (beside f s v) z x p)
+
+  pub reranked-beside : {out : List ℕ} {word : ℕ} → out ≡ reranked t f → word ≡ packed (beside (octetOf (getD out (s / 8) 0)) (s % 8) v) 8
+      → set out (s / 8) word ≡ reranked t (beside f s v)
+  reranked-beside o e = rw (e, o) reranked-word-set
+
+-- every rank changed by what it was, a word at a time, and then that of one slot
+module _ (t : List ℕ) (z : 2 ≤ length t) (g : ℕ → ℕ) (b : (r : ℕ) → r < 128 → g r < 128) (s : ℕ) (h : s < 16) {first second : ℕ}
+    (p : first ≡ packed (λ j. g (rankIn (getD t 0 0) j)) 8) (q : second ≡ packed (λ j. g (rankIn (getD (set t 0 first) 1 0) j)) 8) where
+  each-is : set (set t 0 first) 1 second ≡ reranked t (λ i. g (rankOf t i))
+  unfolding reranked
+  each-is =
+      let a = p ∙ packed-same _ (λ j. g (rankOf t j)) 8 (λ j l. ap g (sym (rank-word t 0 j j l (omega arith)))) in
+      let c = q ∙ ap (λ (w : ℕ). packed (λ j. g (rankIn w j)) 8) (getD-set-other t 0 1 first 0 (λ e. omega arith))
+      ∙ packed-same _ (λ j. g (rankOf t (8 + j))) 8 (λ j l. ap g (sym (rank-word t 1 j (8 + j) l (omega arith)))) in
+      ap (λ (w : ℕ). set (set t 0 first) 1 w) c ∙ ap (λ (w : ℕ). set (set t 0 w) 1 (packed (λ j. g (rankOf t (8 + j))) 8)) a
+
+  pub own-octet : octetOf (getD (set (set t 0 first) 1 second) (s / 8) 0) (s % 8) ≡ g (rankOf t s)
+  own-octet = ap (λ (l : List ℕ). octetOf (getD l (s / 8) 0) (s % 8)) each-is ∙ reranked-octet t _ z (λ i l. b (rankOf t i) (rank-below t i)) s h
+
+  pub own-replaced : (v : ℕ) {word : ℕ} → word ≡ packed (beside (octetOf (getD (set (set t 0 first) 1 second) (s / 8) 0)) (s % 8) v) 8
+      → set (set (set t 0 first) 1 second) (s / 8) word ≡ reranked t (beside (λ i. g (rankOf t i)) s v)
+  own-replaced v e = reranked-beside t (λ i. g (rankOf t i)) z (λ i l. b (rankOf t i) (rank-below t i)) s v h each-is e
+
+-- ---- a rank set
+
+module _ (t : List ℕ) (s v : ℕ) where
+  pub set-outside : 16 ≤ s → t ≡ rankSet t s v
+  unfolding rankSet
+  set-outside h = sym (cond-no _ _ (le-ltb s 16 h))
+
+  pub rank-set-is : s < 16 → rankSet t s v ≡ reranked t (beside (rankOf t) s v)
+  unfolding rankSet
+  rank-set-is h = cond-yes _ _ (lt-ltb s 16 h)
+
+  pub rank-set-only : OnlyRanks t (rankSet t s v)
+  unfolding rankSet
+  rank-set-only = reranked-if t (beside (rankOf t) s v) (ltb s 16)
+
+  module _ (h : s < 16) (z : 2 ≤ length t) {old first second : ℕ} (o : old ≡ rankOf t s) (p : first ≡ packed (rankIn (getD t 0 0)) 8)
+      (q : second ≡ packed (rankIn (getD (set t 0 first) 1 0)) 8) where
+    pub set-octet : octetOf (getD (set (set t 0 first) 1 second) (s / 8) 0) (s % 8) ≡ old
+    set-octet = own-octet t z (λ r. r) (λ r l. l) s h p q ∙ sym o
+
+    pub set-done : {word : ℕ} → word ≡ packed (beside (octetOf (getD (set (set t 0 first) 1 second) (s / 8) 0)) (s % 8) v) 8
+        → set (set (set t 0 first) 1 second) (s / 8) word ≡ rankSet t s v
+    set-done e = own-replaced t z (λ r. r) (λ r l. l) s h p q v e ∙ sym (rank-set-is h)
 
 -- ---- a use
+
+pub raised-self : (old : ℕ) → raised old old ≡ old
+raised-self old = cond-no _ _ (le-ltb old old (omega arith))
+
+raised-rank : (old r : ℕ) → old < 128 → r < 128 → raised old r < 128
+raised-rank old r o h =
+    by-cases (decLt r old) (λ l. rw (lt-ltb r old l) (omega arith)) (λ l. rw (le-ltb r old (omega arith)) h)
 
 module _ (t : List ℕ) (s : ℕ) where
   pub use-outside : 16 ≤ s → t ≡ usedSlot t s
   unfolding usedSlot
-  use-outside h = sym (cond-no _ _ (le-ltb s 16 h))
+  use-outside h = sym (cond-no _ _ (and-no _ (le-ltb s 16 h)))
 
-  pub use-more : (i : ℕ) {v : ℕ} {out : List ℕ} → out ≡ overwritten t 0 (λ j. raised (rankOf t s) (rankOf t j)) i → v ≡ raised (rankOf t s) (rankOf out i)
-      → set out i v ≡ overwritten t 0 (λ j. raised (rankOf t s) (rankOf t j)) (i + 1)
-  use-more = reranked-more t (raised (rankOf t s))
+  pub used-only : OnlyRanks t (usedSlot t s)
+  unfolding usedSlot
+  used-only = reranked-if t (usedRank (rankOf t) s) (ltb s 16 && not (eqb (rankOf t s) 0))
 
   module _ (h : s < 16) where
-    pub used-is : usedSlot t s ≡ reranked t (usedRank (rankOf t) s)
-    unfolding usedSlot
-    used-is = cond-yes _ _ (lt-ltb s 16 h)
-
     -- a use of the slot that was used last changes nothing
     pub use-last : rankOf t s ≡ 0 → t ≡ usedSlot t s
-    use-last e = sym (used-is ∙ overwritten-again t 0 (usedRank (rankOf t) s) 16 (λ k l. rw zero-add (same k (ℕ-discrete k s))))
-      where
-        same : (k : ℕ) → Dec (k ≡ s) → getD t k 0 ≡ usedRank (rankOf t) s k
-        same k (yes q) = rw q (e ∙ sym (cond-yes _ _ (eq-eqb s s refl)))
-        same k (no q) = sym (cond-no _ _ (ne-eqb k s q) ∙ cond-no _ _ (le-ltb (rankOf t k) (rankOf t s) (omega arith)))
+    unfolding usedSlot
+    use-last e = sym (cond-no _ _ (and-yes (lt-ltb s 16 h) (ap not (eq-eqb (rankOf t s) 0 e))))
 
-    pub use-done : 16 ≤ length t → {out : List ℕ} → out ≡ reranked t (λ j. raised (rankOf t s) (rankOf t j)) → set out s 0 ≡ usedSlot t s
-    use-done z o = rw o (reranked-set t (λ j. raised (rankOf t s) (rankOf t j)) z s 0 h) ∙ sym used-is
+    used-is : rankOf t s ≢ 0 → usedSlot t s ≡ reranked t (usedRank (rankOf t) s)
+    unfolding usedSlot
+    used-is n = cond-yes _ _ (and-yes (lt-ltb s 16 h) (ap not (ne-eqb (rankOf t s) 0 n)))
 
-    pub length-used : length (usedSlot t s) ≡ length t
-    length-used = ap length used-is ∙ length-reranked t (usedRank (rankOf t) s)
+    module _ (z : 2 ≤ length t) where
+      pub used-rank : (i : ℕ) → i < 16 → rankOf (usedSlot t s) i ≡ usedRank (rankOf t) s i
+      used-rank i l =
+          by-cases (ℕ-discrete (rankOf t s) 0)
+          (λ e. ap (λ (u : List ℕ). rankOf u i) (sym (use-last e)) ∙ same e (ℕ-discrete i s))
+          (λ n. rw (used-is n) (reranked-in t (usedRank (rankOf t) s) z 
+          (λ j m. beside-below (λ x. raised (rankOf t s) (rankOf t x)) s 0 j (omega arith) (raised-rank _ _ (rank-below t s) (rank-below t j))) i l))
+        where
+          same : rankOf t s ≡ 0 → Dec (i ≡ s) → rankOf t i ≡ usedRank (rankOf t) s i
+          same e (yes q) = rw q (e ∙ sym (cond-yes _ _ (eq-eqb s s refl)))
+          same e (no q) = sym (cond-no _ _ (ne-eqb i s q) ∙ cond-no _ _ (le-ltb (rankOf t i) (rankOf t s) (omega arith)))
 
-    pub used-rank : 16 ≤ length t → (i : ℕ) → i < 16 → rankOf (usedSlot t s) i ≡ usedRank (rankOf t) s i
-    used-rank z i l = rw used-is (reranked-in t (usedRank (rankOf t) s) z i l)
+      module _ {old first second : ℕ} (o : old ≡ rankOf t s) (p : first ≡ packed (λ j. raised old (rankIn (getD t 0 0) j)) 8)
+          (q : second ≡ packed (λ j. raised old (rankIn (getD (set t 0 first) 1 0) j)) 8) where
+        raised-each : (r : ℕ) → r < 128 → raised old r < 128
+        raised-each r l = raised-rank old r (omega (arith, rank-below t s)) l
 
-    pub used-out : (x : ℕ) → 16 ≤ x → getD (usedSlot t s) x 0 ≡ getD t x 0
-    used-out x o = rw used-is (reranked-out t (usedRank (rankOf t) s) x o)
+        pub use-octet : octetOf (getD (set (set t 0 first) 1 second) (s / 8) 0) (s % 8) ≡ old
+        use-octet = own-octet t z (raised old) raised-each s h p q ∙ ap (raised old) (sym o) ∙ raised-self old
+
+        pub use-done : (old ≡ 0 → ⊥) → {word : ℕ} → word ≡ packed (beside (octetOf (getD (set (set t 0 first) 1 second) (s / 8) 0)) (s % 8) 0) 8
+            → set (set (set t 0 first) 1 second) (s / 8) word ≡ usedSlot t s
+        use-done n e =
+            own-replaced t z (raised old) raised-each s h p q 0 e
+            ∙ ap (λ (x : ℕ). reranked t (beside (λ i. raised x (rankOf t i)) s 0)) o
+            ∙ sym (used-is (λ e. n (o ∙ e)))
 
 -- ---- an entry forgotten
+
+pub lowered-self : (old : ℕ) → lowered old old ≡ old
+lowered-self old = cond-no _ _ (and-no _ (le-ltb old old (omega arith)))
+
+pub lowered-rank : (old r : ℕ) → lowered old r ≤ r
+lowered-rank old r = go (ltb old r && ltb r 16)
+  where
+    go : (b : Bool) → cond b (r - 1) r ≤ r
+    go true = omega arith
+    go false = omega arith
 
 module _ (t : List ℕ) (s : ℕ) where
   pub forget-outside : 16 ≤ s → t ≡ forgottenSlot t s
   unfolding forgottenSlot
   forget-outside h = sym (cond-no _ _ (and-no _ (le-ltb s 16 h)))
 
-  pub forget-more : (i : ℕ) {v : ℕ} {out : List ℕ} → out ≡ overwritten t 0 (λ j. lowered (rankOf t s) (rankOf t j)) i → v ≡ lowered (rankOf t s) (rankOf out i)
-      → set out i v ≡ overwritten t 0 (λ j. lowered (rankOf t s) (rankOf t j)) (i + 1)
-  forget-more = reranked-more t (lowered (rankOf t s))
+  pub forgotten-only : OnlyRanks t (forgottenSlot t s)
+  unfolding forgottenSlot
+  forgotten-only = reranked-if t (forgottenRank (rankOf t) s) (ltb s 16 && ltb (rankOf t s) 16)
 
   module _ (h : s < 16) where
     pub forget-free : 16 ≤ rankOf t s → t ≡ forgottenSlot t s
     unfolding forgottenSlot
     forget-free e = sym (cond-no _ _ (and-yes (lt-ltb s 16 h) (le-ltb (rankOf t s) 16 e)))
 
-    module _ (e : rankOf t s < 16) where
-      pub forgotten-is : forgottenSlot t s ≡ reranked t (forgottenRank (rankOf t) s)
+    module _ (z : 2 ≤ length t) (e : rankOf t s < 16) where
+      forgotten-is : forgottenSlot t s ≡ reranked t (forgottenRank (rankOf t) s)
       unfolding forgottenSlot
       forgotten-is = cond-yes _ _ (and-yes (lt-ltb s 16 h) (lt-ltb (rankOf t s) 16 e))
 
-      pub forget-done : 16 ≤ length t → {out : List ℕ} → out ≡ reranked t (λ j. lowered (rankOf t s) (rankOf t j)) → set out s 16 ≡ forgottenSlot t s
-      forget-done z o = rw o (reranked-set t (λ j. lowered (rankOf t s) (rankOf t j)) z s 16 h) ∙ sym forgotten-is
+      pub forgotten-rank : (i : ℕ) → i < 16 → rankOf (forgottenSlot t s) i ≡ forgottenRank (rankOf t) s i
+      forgotten-rank i l =
+          rw forgotten-is (reranked-in t (forgottenRank (rankOf t) s) z
+          (λ j m. beside-below (λ x. lowered (rankOf t s) (rankOf t x)) s 16 j (omega arith)
+          (omega (arith, lowered-rank (rankOf t s) (rankOf t j), rank-below t j))) i l)
 
-      pub length-forgotten : length (forgottenSlot t s) ≡ length t
-      length-forgotten = ap length forgotten-is ∙ length-reranked t (forgottenRank (rankOf t) s)
+      module _ {old first second : ℕ} (o : old ≡ rankOf t s) (p : first ≡ packed (λ j. lowered old (rankIn (getD t 0 0) j)) 8)
+          (q : second ≡ packed (λ j. lowered old (rankIn (getD (set t 0 first) 1 0) j)) 8) where
+        lowered-each : (r : ℕ) → r < 128 → lowered old r < 128
+        lowered-each r l = omega (arith, lowered-rank old r)
 
-      pub forgotten-rank : 16 ≤ length t → (i : ℕ) → i < 16 → rankOf (forgottenSlot t s) i ≡ forgottenRank (rankOf t) s i
-      forgotten-rank z i l = rw forgotten-is (reranked-in t (forgottenRank (rankOf t) s) z i l)
+        pub forget-octet : octetOf (getD (set (set t 0 first) 1 second) (s / 8) 0) (s % 8) ≡ old
+        forget-octet = own-octet t z (lowered old) lowered-each s h p q ∙ ap (lowered old) (sym o) ∙ lowered-self old
 
-      pub forgotten-out : (x : ℕ) → 16 ≤ x → getD (forgottenSlot t s) x 0 ≡ getD t x 0
-      forgotten-out x o = rw forgotten-is (reranked-out t (forgottenRank (rankOf t) s) x o)
+        pub forget-done : {word : ℕ} → word ≡ packed (beside (octetOf (getD (set (set t 0 first) 1 second) (s / 8) 0)) (s % 8) 16) 8
+            → set (set (set t 0 first) 1 second) (s / 8) word ≡ forgottenSlot t s
+        forget-done e =
+            own-replaced t z (lowered old) lowered-each s h p q 16 e
+            ∙ ap (λ (x : ℕ). reranked t (beside (λ i. lowered x (rankOf t i)) s 16)) o
+            ∙ sym forgotten-is

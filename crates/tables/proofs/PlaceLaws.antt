@@ -1,14 +1,23 @@
 -- Laws of the slot that a frame of a key uses, over the kind of key: one that has the key, and one that a new key takes.
 use Prim.Native.Nat.{ℕ, _<_}
-use mathlib.Core.Bool.{true, false, _&&_}
+use mathlib.Core.Bool.{Bool, true, false, _&&_}
 use mathlib.Core.List.{List}
-use mathlib.Core.Path.{_≡_}
-use Rattle.records.proofs.Booleans.{and-both}
-use Rattle.records.proofs.SearchLaws.{found-has}
+use mathlib.Core.Path.{_≡_, ap, _∙_}
+use Rattle.records.proofs.Booleans.{and-both, and-false}
+use Rattle.records.proofs.SearchLaws.{found-has, first-same}
 use Rattle.records.specs.declared.search.Found.{Found}
 use Rattle.records.specs.declared.search.Found.the-variants.{At, Nothing}
-use Rattle.tables.specs.Order.{rankOf, inUse, newSlot, usedSlot}
+use Rattle.records.specs.Search.{firstFrom}
+use Rattle.tables.proofs.OrderLaws.{none-in-use}
+use Rattle.tables.specs.Order.{rankOf, inUse, newSlot, usedSlot, allFree}
 use Rattle.tables.specs.Place.{KeyColumns, found, entered}
+
+-- a table whose words of ranks are those of free slots has no key
+pub none-found : {K : Type 0} (keys : KeyColumns K) (t : List ℕ) (k : K) → allFree t ≡ true → found keys t k ≡ Nothing
+unfolding found firstFrom
+none-found keys t k e =
+    first-same (λ i. keys .matches t k i && inUse (rankOf t) i) (λ i. false) 0 16
+    (λ i l. ap (λ (b : Bool). keys .matches t k i && b) (none-in-use t e i l) ∙ and-false (keys .matches t k i))
 
 module _ {K : Type 0} (keys : KeyColumns K) (t : List ℕ) (k : K) {f : Found} (s : f ≡ found keys t k) where
   -- a slot that is found is one of the sixteen, and has the key

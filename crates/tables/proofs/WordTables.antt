@@ -9,23 +9,23 @@ use native.Mathlib.Decide.{decLt}
 use native.Mathlib.Nat.{not-suc-le-zero}
 use native.Mathlib.Omega.{arith}
 use borrow.Author.Tests.{lt-ltb, le-ltb, eq-eqb, eqb-true, ltb-true}
-use lib.Dec.{ltb}
+use lib.Dec.{eqb, ltb}
 use lib.ListN.{length, getD, set, length-set, length-append, List·getD-append}
 use lib.Seq.{getD-append-add, getD-set-same, getD-set-other, ext-getD}
-use Rattle.records.proofs.Booleans.{cond-yes, cond-no}
+use Rattle.records.proofs.Booleans.{cond-yes, cond-no, and-yes}
 use Rattle.records.proofs.NameLaws.{length-tabulate, tabulate-at, tabulate-same, agree-all, length-overwritten, overwritten-in, overwritten-out}
 use Rattle.records.proofs.SearchLaws.{Searched, hit, miss, searched}
 use Rattle.records.specs.declared.search.Found.{Found}
 use Rattle.records.specs.Name.{tabulate, overwritten}
 use Rattle.records.specs.Remembered.{without, after}
 use Rattle.tables.proofs.NamedLaws.{name-decides, has-key}
-use Rattle.tables.proofs.OrderLaws.{length-used, used-rank, used-out, length-forgotten, forgotten-rank, forgotten-out}
+use Rattle.tables.proofs.OrderLaws.{rank-same, free-rank, used-only, used-rank, forgotten-only, forgotten-rank}
 use Rattle.tables.proofs.RankTable.{Table, Represents, represents-none, represents-forgotten}
 use Rattle.tables.specs.declared.place.Place.{Place}
 use Rattle.tables.specs.Column.{wordOf, wordSet}
 use Rattle.tables.specs.Named.{hasKey, keyStored, named}
 use Rattle.tables.specs.Numbered.{numberStored, numbered}
-use Rattle.tables.specs.Order.{rankOf, inUse, usedRank, usedSlot, forgottenSlot, noEntries}
+use Rattle.tables.specs.Order.{rankOf, inUse, usedRank, usedSlot, forgottenSlot, freeWord, noEntries, allFree}
 use Rattle.tables.specs.Place.{KeyColumns, Entered, placeAt, found, enteredAt, entered, ifKnown}
 use Rattle.tables.specs.Table.{valueAt, valueOf, stepped}
 use Rattle.tables.specs.WordTable.{Encoding, valueWord, valueSet, wordTable, oneNumber, both, twoNumbers, threeNumbers}
@@ -146,7 +146,7 @@ module _ {K W : Type 0} (keys : KeyColumns K) (L : KeyColumnLaws keys) (encoding
     withValue = valueSet withUse (keys .values) s (encoding .words w)
 
     length-with-use : length withUse ≡ length t
-    length-with-use = length-used withKey s h ∙ L .stored-length t s k h
+    length-with-use = used-only withKey s .size ∙ L .stored-length t s k h
 
     pub value-length : length withValue ≡ keys .values + encoding .count * 16
     value-length = length-values s h (encoding .words w) withUse (keys .values) ∙ length-with-use ∙ z
@@ -156,13 +156,16 @@ module _ {K W : Type 0} (keys : KeyColumns K) (L : KeyColumnLaws keys) (encoding
     below x l = values-out s h x (encoding .words w) withUse (keys .values) (λ j q. omega arith)
 
     pub in-key : (x : ℕ) → 16 ≤ x → x < keys .values → getD withValue x 0 ≡ getD withKey x 0
-    in-key x l g = below x g ∙ used-out withKey s h x l
+    in-key x l g = below x g ∙ used-only withKey s .rest x (omega arith)
 
     pub value-rank : (i : ℕ) → i < 16 → rankOf withValue i ≡ usedRank (rankOf t) s i
     value-rank i l =
-        below i (omega (arith, L .behind))
+        rank-same withUse withValue i l (λ x o. below x (omega (arith, L .behind)))
         ∙ used-rank withKey s h (omega (arith, L .stored-length t s k h, L .behind)) i l
-        ∙ rw (L .stored-ranks t s k h s h, L .stored-ranks t s k h i l)
+        ∙ rw (same s h, same i l)
+      where
+        same : (j : ℕ) → j < 16 → rankOf withKey j ≡ rankOf t j
+        same j m = rank-same t withKey j m (λ x o. L .stored-ranks t s k h x (omega arith))
 
     pub value-back : encoding .read (valueWord withValue (keys .values) s) ≡ w
     value-back =
@@ -176,7 +179,7 @@ module _ {K W : Type 0} (keys : KeyColumns K) (L : KeyColumnLaws keys) (encoding
         E .same _ _ (λ j l.
         word-same t withValue (j * 16 + keys .values) i (λ g.
         values-out s h (j * 16 + keys .values + i) (encoding .words w) withUse (keys .values) (λ m q. n (omega arith))
-        ∙ used-out withKey s h (j * 16 + keys .values + i) (omega (arith, L .behind))
+        ∙ used-only withKey s .rest (j * 16 + keys .values + i) (omega (arith, L .behind))
         ∙ L .stored-values t s k h (j * 16 + keys .values + i) (omega arith)))
 
   abbrev pub table : Table K W
@@ -210,9 +213,15 @@ pub length-none : (n : ℕ) → length (noEntries n) ≡ n
 unfolding noEntries
 length-none n = length-tabulate _ n
 
-pub rank-none : (n : ℕ) → 16 ≤ n → (i : ℕ) → i < 16 → rankOf (noEntries n) i ≡ 16
-unfolding noEntries
-rank-none n h i l = tabulate-at _ n i 0 (omega arith) ∙ cond-yes _ _ (lt-ltb i 16 l)
+pub none-free : (n : ℕ) → 2 ≤ n → allFree (noEntries n) ≡ true
+unfolding noEntries allFree
+none-free n h = and-yes (word 0 (omega arith)) (word 1 (omega arith))
+  where
+    word : (x : ℕ) → x < 2 → eqb (getD (tabulate (λ k. cond (ltb k 2) freeWord 0) n) x 0) freeWord ≡ true
+    word x l = eq-eqb _ freeWord (tabulate-at _ n x 0 (omega arith) ∙ cond-yes _ _ (lt-ltb x 2 l))
+
+pub rank-none : (n : ℕ) → 2 ≤ n → (i : ℕ) → i < 16 → rankOf (noEntries n) i ≡ 16
+rank-none n h = free-rank (noEntries n) (none-free n h)
 
 module _ {K W : Type 0} (keys : KeyColumns K) (L : KeyColumnLaws keys) (encoding : Encoding W) (E : EncodingLaws encoding) (dec : Discrete K) where
   pub represents-no-entries : Represents (table keys L encoding E) (noEntries (keys .values + encoding .count * 16)) []
@@ -227,11 +236,11 @@ module _ {K W : Type 0} (keys : KeyColumns K) (L : KeyColumnLaws keys) (encoding
     words-forgotten s h e =
         let u = ltb-true (rankOf t s) 16 e in
         represents-forgotten (table keys L encoding E) dec r s h e
-        (length-forgotten t s h u ∙ r .sized)
-        (forgotten-rank t s h u (omega (arith, r .sized, L .behind)))
+        (forgotten-only t s .size ∙ r .sized)
+        (forgotten-rank t s h (omega (arith, r .sized, L .behind)) u)
         (λ i.
-        let p = L .reads t (forgottenSlot t s) i (λ x l g. forgotten-out t s h u x l) in
-        let q = E .same _ _ (λ j l. word-same t (forgottenSlot t s) (j * 16 + keys .values) i (λ g. forgotten-out t s h u _ (omega (arith, L .behind)))) in
+        let p = L .reads t (forgottenSlot t s) i (λ x l g. forgotten-only t s .rest x (omega arith)) in
+        let q = E .same _ _ (λ j l. word-same t (forgottenSlot t s) (j * 16 + keys .values) i (λ g. forgotten-only t s .rest _ (omega (arith, L .behind)))) in
         λ x. (p x, q x))
 
 module _ {K W : Type 0} (keys : KeyColumns K) (L : KeyColumnLaws keys) (encoding : Encoding W) (E : EncodingLaws encoding) (t : List ℕ) where
@@ -248,7 +257,7 @@ module _ {K W : Type 0} (keys : KeyColumns K) (L : KeyColumnLaws keys) (encoding
       go (hit s h p) =
           ap some (E .same _ _ (λ j l.
           sym (word-same t (usedSlot (keys .stored t s k) s) (j * 16 + keys .values) s (λ g.
-          used-out (keys .stored t s k) s h _ (omega (arith, L .behind)) ∙ L .stored-values t s k h _ (omega arith)))))
+          used-only (keys .stored t s k) s .rest _ (omega (arith, L .behind)) ∙ L .stored-values t s k h _ (omega arith)))))
       go (miss p) = refl
 
 -- ---- a check: a frame entered, its value read, and the value that follows set in the slot that it used

@@ -4,11 +4,7 @@ use Prim.Native.Nat.{ℕ, zero, suc, _+_, _*_, _%_, _^_}
 use mathlib.Core.List.{List, _∷_}
 use lib.ListN.{length, replicate}
 use Rattle.records.specs.Name.{tabulate, octetAt}
-
--- the number of n octets, the first the least
-unfoldable pub packed : (ℕ → ℕ) → ℕ → ℕ
-packed octet zero = 0
-packed octet (suc n) = octet 0 + 256 * packed (λ k. octet (suc k)) n
+use Rattle.tables.specs.Packed.{packed}
 
 -- word k of a name: its octets from 8 × k on, zeros behind its end
 unfoldable pub nameWord : List ℕ → ℕ → ℕ

@@ -1,3 +1,4 @@
+pub mod Packed
 pub mod Order
 pub mod Column
 pub mod Place

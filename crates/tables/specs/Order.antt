@@ -1,17 +1,15 @@
 -- The order of use of a table's sixteen slots (01, "Remembered tables": a full table gives up its oldest entry; request 9: the order is stored). A
--- slot's rank is 0 where it was used last, up to 15, and 16 where it is free. A table is a list of words; the first sixteen are the ranks.
-use Prim.Native.Nat.{ℕ, _+_, _-_}
+-- slot's rank is 0 where it was used last, up to 15, and 16 where it is free. A table is a list of words; the first two have the ranks, eight
+-- octets each.
+use Prim.Native.Nat.{ℕ, _+_, _-_, _/_, _%_, _^_}
 use mathlib.Core.Bool.{Bool, _&&_, not, cond}
 use mathlib.Core.List.{List}
 use lib.Dec.{eqb, ltb, leb}
-use lib.ListN.{getD}
+use lib.ListN.{getD, set}
 use Rattle.records.specs.declared.search.Found.{Found}
-use Rattle.records.specs.Name.{tabulate, overwritten}
+use Rattle.records.specs.Name.{tabulate}
 use Rattle.records.specs.Search.{first, firstFrom, slotOr}
-
--- the rank of a slot
-abbrev pub rankOf : List ℕ → ℕ → ℕ
-rankOf t slot = getD t slot 0
+use Rattle.tables.specs.Packed.{packed, beside}
 
 -- whether a slot is in use
 abbrev pub inUse : (ℕ → ℕ) → ℕ → Bool
@@ -35,26 +33,46 @@ lowered old rank = cond (ltb old rank && ltb rank 16) (rank - 1) rank
 
 -- the ranks after a use of a slot
 abbrev pub usedRank : (ℕ → ℕ) → ℕ → ℕ → ℕ
-usedRank rank slot i = cond (eqb i slot) 0 (raised (rank slot) (rank i))
+usedRank rank slot = beside (λ i. raised (rank slot) (rank i)) slot 0
 
 -- the ranks after the entry of a slot is forgotten
 abbrev pub forgottenRank : (ℕ → ℕ) → ℕ → ℕ → ℕ
-forgottenRank rank slot i = cond (eqb i slot) 16 (lowered (rank slot) (rank i))
+forgottenRank rank slot = beside (λ i. lowered (rank slot) (rank i)) slot 16
 
 -- ---- the words of a table
 
--- its ranks replaced
-abbrev pub reranked : List ℕ → (ℕ → ℕ) → List ℕ
-reranked t rank = overwritten t 0 rank 16
+-- a rank in a word: the low seven bits of an octet, so that every word has an answer
+abbrev pub rankIn : ℕ → ℕ → ℕ
+rankIn word place = word / 256 ^ place % 128
 
--- a slot used; a slot of 16 or more changes nothing
+-- the rank of a slot
+unfoldable pub rankOf : List ℕ → ℕ → ℕ
+rankOf t slot = rankIn (getD t (slot / 8) 0) (slot % 8)
+
+-- the ranks of a table replaced
+unfoldable pub reranked : List ℕ → (ℕ → ℕ) → List ℕ
+reranked t rank = set (set t 0 (packed rank 8)) 1 (packed (λ i. rank (8 + i)) 8)
+
+-- the rank of a slot set; a slot of 16 or more changes nothing
+unfoldable pub rankSet : List ℕ → ℕ → ℕ → List ℕ
+rankSet t slot r = cond (ltb slot 16) (reranked t (beside (rankOf t) slot r)) t
+
+-- a slot used; a slot of 16 or more changes nothing, and so does the slot that was used last
 unfoldable pub usedSlot : List ℕ → ℕ → List ℕ
-usedSlot t slot = cond (ltb slot 16) (reranked t (usedRank (rankOf t) slot)) t
+usedSlot t slot = cond (ltb slot 16 && not (eqb (rankOf t slot) 0)) (reranked t (usedRank (rankOf t) slot)) t
 
 -- the entry of a slot forgotten; a slot that is free, or of 16 or more, changes nothing
 unfoldable pub forgottenSlot : List ℕ → ℕ → List ℕ
 forgottenSlot t slot = cond (ltb slot 16 && inUse (rankOf t) slot) (reranked t (forgottenRank (rankOf t) slot)) t
 
+-- the word of eight free slots
+abbrev pub freeWord : ℕ
+freeWord = 0x1010101010101010
+
 -- a table of n words without entries: every slot free, every other word 0
 unfoldable pub noEntries : ℕ → List ℕ
-noEntries n = tabulate (λ k. cond (ltb k 16) 16 0) n
+noEntries n = tabulate (λ k. cond (ltb k 2) freeWord 0) n
+
+-- whether a table's words of ranks are those of free slots
+unfoldable pub allFree : List ℕ → Bool
+allFree t = eqb (getD t 0 0) freeWord && eqb (getD t 1 0) freeWord

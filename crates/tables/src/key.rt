@@ -2,7 +2,8 @@
 ghost use mathlib.Core.Path.{_≡_};
 ghost use Prim.Native.Nat.{_+_, _*_, _≤_};
 ghost use Rattle.records.specs.Name.{nameOf, octetAt};
-ghost use Rattle.tables.specs.Key.{packed, keyOf};
+ghost use Rattle.tables.specs.Key.{keyOf};
+ghost use Rattle.tables.specs.Packed.{packed};
 use records::name::padded;
 use records::name::valid_len;
 

@@ -6,6 +6,7 @@ ghost use Rattle.records.specs.Name.{agree, overwritten};
 ghost use Rattle.tables.specs.Named.{hasKey, keyStored, named};
 ghost use Rattle.tables.specs.Place.{found, entered};
 use crate::order::new_slot;
+use crate::order::rank_at;
 use crate::order::use_slot;
 use crate::place::Place;
 use records::search::Found;
@@ -63,7 +64,7 @@ pub fn find_key(t: &[u64], key: &[u64; 10]) -> Found
         if i >= 16 {
             break Found::Nothing;
         }
-        if has_key(t, i, key) && t[i] < 16 {
+        if has_key(t, i, key) && rank_at(t, i) < 16 {
             break Found::At(i);
         }
         i += 1;

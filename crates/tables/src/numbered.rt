@@ -6,6 +6,7 @@ ghost use Rattle.tables.specs.Numbered.{numbered};
 ghost use Rattle.tables.specs.Place.{found, entered};
 use crate::column::set_word;
 use crate::order::new_slot;
+use crate::order::rank_at;
 use crate::order::use_slot;
 use crate::place::Place;
 use records::search::Found;
@@ -25,7 +26,7 @@ pub fn find_number(t: &[u64], number: u64) -> Found
         if i >= 16 {
             break Found::Nothing;
         }
-        if t[NUMBERS + i] == number && t[i] < 16 {
+        if t[NUMBERS + i] == number && rank_at(t, i) < 16 {
             break Found::At(i);
         }
         i += 1;

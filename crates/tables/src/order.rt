@@ -1,14 +1,53 @@
 // The order of use of a table's slots, after the ageing of industrial/iec61850-monitor/src/lib.rs of craton-shield a31d888527 (Apache-2.0), changed:
-// a rank for each slot in place of ticks. A table is a slice of words; the first sixteen are the ranks.
+// a rank for each slot in place of ticks. A table is a slice of words; the first two have the ranks, an octet for each slot, the first the least.
 ghost use mathlib.Core.Path.{_≡_};
-ghost use Prim.Native.Nat.{_≤_};
+ghost use Prim.Native.Nat.{_≤_, _<_};
 ghost use lib.ListN.{length};
-ghost use Rattle.tables.specs.Order.{rankOf, freeSlot, newSlot, raised, lowered, usedSlot, forgottenSlot, noEntries};
+ghost use Rattle.tables.specs.Order.{rankIn, rankOf, freeSlot, newSlot, raised, lowered, rankSet, usedSlot, forgottenSlot};
+ghost use Rattle.tables.specs.Order.{noEntries, allFree};
+ghost use Rattle.tables.specs.Packed.{packed, octetOf, beside};
 use records::search::Found;
+
+// The low seven bits of eight octets, their high bits, and an octet of 1 eight times.
+const LOW: u64 = 0x7f7f7f7f7f7f7f7f;
+
+const HIGH: u64 = 0x8080808080808080;
+
+const ONES: u64 = 0x0101010101010101;
+
+// Eight free slots.
+const FREE: u64 = 0x1010101010101010;
+
+// The rank at a place of a word.
+fn rank_in(word: u64, place: usize) -> u64
+    requires { ⌜ place < 8 ⌝ }
+    ensures { λ r. ⌜ r ≡ rankIn word place ⌝ }
+{
+    (word >> (8 * place)) % 128
+}
+
+// The rank of a slot.
+pub fn rank_at(t: &[u64], slot: usize) -> u64
+    requires { ⌜ (slot < 16) × (2 ≤ length (now t)) ⌝ }
+    ensures { λ r. ⌜ r ≡ rankOf (now (t .entry)) slot ⌝ }
+{
+    rank_in(t[slot / 8], slot % 8)
+}
+
+// Whether no slot is in use, told by the two words.
+pub fn no_entries(t: &[u64]) -> bool
+    requires { ⌜ 2 ≤ length (now t) ⌝ }
+    ensures { λ r. ⌜ r ≡ allFree (now (t .entry)) ⌝ }
+{
+    if t[0] != FREE {
+        return false;
+    }
+    t[1] == FREE
+}
 
 // The first free slot.
 pub fn free_slot(t: &[u64]) -> Found
-    requires { ⌜ 16 ≤ length (now t) ⌝ }
+    requires { ⌜ 2 ≤ length (now t) ⌝ }
     ensures { λ r. ⌜ r ≡ freeSlot (rankOf (now (t .entry))) ⌝ }
 {
     let mut i: usize = 0;
@@ -16,7 +55,7 @@ pub fn free_slot(t: &[u64]) -> Found
         if i >= 16 {
             break Found::Nothing;
         }
-        if t[i] >= 16 {
+        if rank_at(t, i) >= 16 {
             break Found::At(i);
         }
         i += 1;
@@ -25,7 +64,7 @@ pub fn free_slot(t: &[u64]) -> Found
 
 // The slot that a new key takes: the first of rank 15 or more, which is free or else the oldest, or the last slot.
 pub fn new_slot(t: &[u64]) -> usize
-    requires { ⌜ 16 ≤ length (now t) ⌝ }
+    requires { ⌜ 2 ≤ length (now t) ⌝ }
     ensures { λ r. ⌜ r ≡ newSlot (rankOf (now (t .entry))) ⌝ }
 {
     let mut i: usize = 0;
@@ -33,38 +72,69 @@ pub fn new_slot(t: &[u64]) -> usize
         if i >= 15 {
             break 15;
         }
-        if t[i] >= 15 {
+        if rank_at(t, i) >= 15 {
             break i;
         }
         i += 1;
     }
 }
 
-// A rank after a use of a slot of rank `old`.
-fn raised(old: u64, rank: u64) -> u64
-    ensures { λ r. ⌜ r ≡ raised old rank ⌝ }
+// The ranks of a word, without the high bits of its octets.
+fn ranks(word: u64) -> u64
+    ensures { λ r. ⌜ r ≡ packed (rankIn word) 8 ⌝ }
 {
-    if rank < old { rank + 1 } else { rank }
+    word & LOW
+}
+
+// A word with the octet at a place, `old`, replaced.
+fn with_octet(word: u64, place: usize, old: u64, octet: u64) -> u64
+    requires { ⌜ (place < 8) × (octetOf word place ≡ old) × (octet < 256) ⌝ }
+    ensures { λ r. ⌜ r ≡ packed (beside (octetOf word) place octet) 8 ⌝ }
+{
+    let at = 8 * place;
+    word - (old << at) + (octet << at)
+}
+
+// Sets the rank of a slot; a slot of 16 or more changes nothing.
+pub fn set_rank(t: &mut [u64], slot: usize, rank: u64)
+    requires { ⌜ (2 ≤ length (now t)) × (rank < 128) ⌝ }
+    ensures { λ _. ⌜ now (t .exit) ≡ rankSet (now (t .entry)) slot rank ⌝ }
+{
+    if slot >= 16 {
+        return;
+    }
+    let old = rank_at(t, slot);
+    t[0] = ranks(t[0]);
+    t[1] = ranks(t[1]);
+    t[slot / 8] = with_octet(t[slot / 8], slot % 8, old, rank);
+}
+
+// The ranks of a word after a use of a slot of rank `old`: those below are raised, all eight at once. Of an octet that has such a rank the sum with
+// 128 - old leaves the high bit 0.
+fn raised_word(old: u64, word: u64) -> u64
+    requires { ⌜ (1 ≤ old) × (old < 128) ⌝ }
+    ensures { λ r. ⌜ r ≡ packed (λ j. raised old (rankIn word j)) 8 ⌝ }
+{
+    let low = ranks(word);
+    let not_below = (low + ONES * (128 - old)) & HIGH;
+    low + (HIGH - not_below) / 128
 }
 
 // Marks a use of a slot; a slot of 16 or more changes nothing. The slot that was used last is told at once: it is the commonest.
 pub fn use_slot(t: &mut [u64], slot: usize)
-    requires { ⌜ 16 ≤ length (now t) ⌝ }
+    requires { ⌜ 2 ≤ length (now t) ⌝ }
     ensures { λ _. ⌜ now (t .exit) ≡ usedSlot (now (t .entry)) slot ⌝ }
 {
     if slot >= 16 {
         return;
     }
-    let old = t[slot];
+    let old = rank_at(t, slot);
     if old == 0 {
         return;
     }
-    let mut i: usize = 0;
-    while i < 16 {
-        t[i] = raised(old, t[i]);
-        i += 1;
-    }
-    t[slot] = 0;
+    t[0] = raised_word(old, t[0]);
+    t[1] = raised_word(old, t[1]);
+    t[slot / 8] = with_octet(t[slot / 8], slot % 8, old, 0);
 }
 
 // A rank after a slot of rank `old` is forgotten.
@@ -77,24 +147,34 @@ fn lowered(old: u64, rank: u64) -> u64
     rank
 }
 
+// The ranks of a word after that, made from the last octet on.
+fn lowered_word(old: u64, word: u64) -> u64
+    ensures { λ r. ⌜ r ≡ packed (λ j. lowered old (rankIn word j)) 8 ⌝ }
+{
+    let mut out: u64 = 0;
+    let mut k: usize = 8;
+    while k > 0 {
+        k -= 1;
+        out = lowered(old, rank_in(word, k)) + 256 * out;
+    }
+    out
+}
+
 // Forgets the entry of a slot and closes up the ranks; a slot that is free, or of 16 or more, changes nothing.
 pub fn forget_slot(t: &mut [u64], slot: usize)
-    requires { ⌜ 16 ≤ length (now t) ⌝ }
+    requires { ⌜ 2 ≤ length (now t) ⌝ }
     ensures { λ _. ⌜ now (t .exit) ≡ forgottenSlot (now (t .entry)) slot ⌝ }
 {
     if slot >= 16 {
         return;
     }
-    let old = t[slot];
+    let old = rank_at(t, slot);
     if old >= 16 {
         return;
     }
-    let mut i: usize = 0;
-    while i < 16 {
-        t[i] = lowered(old, t[i]);
-        i += 1;
-    }
-    t[slot] = 16;
+    t[0] = lowered_word(old, t[0]);
+    t[1] = lowered_word(old, t[1]);
+    t[slot / 8] = with_octet(t[slot / 8], slot % 8, old, 16);
 }
 
 // Makes a table one without entries: every slot free, every other word 0.
@@ -103,7 +183,7 @@ pub fn clear(t: &mut [u64])
 {
     let mut i: usize = 0;
     while i < t.len() {
-        t[i] = if i < 16 { 16 } else { 0 };
+        t[i] = if i < 2 { FREE } else { 0 };
         i += 1;
     }
 }

@@ -13,7 +13,7 @@ returns-2 : tie.Need-returns-2
 returns-2 c =
     let i = c .before .before .before .before .before in
     released-at _ _ _ (i .before .before .before .before .if1 .left) (i .before .before .owned-slot .ensures) (i .i .given .1)
-    (c .before .before .set-word .ensures)
+    (c .before .before .set-rank .ensures)
 
 returns-3 : tie.Need-returns-3
 returns-3 c = released-none _ _ _ (c .before .before .before .before .if1 .left) (c .before .before .owned-slot .ensures) (c .enum-told .given .1)

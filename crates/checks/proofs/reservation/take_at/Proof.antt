@@ -10,8 +10,8 @@ returns c =
     let r = d .before .before .before .before in
     let q = r .before .before .before .before in
     let p = q .before .before .before .before in
-    taken _ _ _ _ (p .before .before .before .before .store-key .ensures) (p .set-word .ensures) (q .set-word2 .ensures) (r .set-word3 .ensures)
-    (d .set-word4 .ensures)
+    taken _ _ _ _ (p .before .before .before .before .store-key .ensures) (p .set-rank .ensures) (q .set-word .ensures) (r .set-word2 .ensures)
+    (d .set-word3 .ensures)
 
 pub take-at-spec : {M : Type 1} → statement M
 take-at-spec =

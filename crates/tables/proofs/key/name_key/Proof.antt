@@ -8,7 +8,8 @@ use lib.ListN.{length, replicate}
 use Rattle.records.proofs.NameLaws.{overwritten-more}
 use Rattle.records.specs.Name.{octetAt, overwritten}
 use Rattle.tables.proofs.KeyLaws.{summed-more, key-of-frame, empty-key}
-use Rattle.tables.specs.Key.{packed, summed}
+use Rattle.tables.specs.Key.{summed}
+use Rattle.tables.specs.Packed.{packed}
 use Rattle.tables.proofs.key.name_key.Statement.{statement}
 use Rattle.tables.proofs.key.name_key.Tie as tie
 

@@ -3,7 +3,7 @@ use mathlib.Core.Path.{_≡_}
 use Prim.Native.Nat.{_+_}
 use native.Mathlib.Omega.{arith}
 use borrow.Author.Needs.{needs}
-use Rattle.tables.specs.Key.{packed}
+use Rattle.tables.specs.Packed.{packed}
 use Rattle.tables.proofs.key.word_at.Statement.{statement}
 use Rattle.tables.proofs.key.word_at.Tie as tie
 

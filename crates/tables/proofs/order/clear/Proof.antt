@@ -7,7 +7,7 @@ use lib.Dec.{ltb}
 use lib.ListN.{length, length-set}
 use borrow.Author.Tests.{lt-ltb, le-ltb}
 use Rattle.records.specs.Name.{overwritten}
-use Rattle.tables.specs.Order.{noEntries}
+use Rattle.tables.specs.Order.{freeWord, noEntries}
 use Rattle.records.proofs.NameLaws.{overwritten-more, overwritten-whole}
 use Rattle.records.proofs.Booleans.{cond-yes, cond-no}
 use native.Mathlib.Omega.{arith}
@@ -15,7 +15,7 @@ use Rattle.tables.proofs.order.clear.Statement.{statement}
 use Rattle.tables.proofs.order.clear.Tie as tie
 
 abbrev Inv-loop : tie.InvT-loop
-Inv-loop t₀ i₀ t i = (i ≤ length t) × (t ≡ overwritten t₀ 0 (λ k. cond (ltb k 16) 16 0) i) × (length t ≡ length t₀)
+Inv-loop t₀ i₀ t i = (i ≤ length t) × (t ≡ overwritten t₀ 0 (λ k. cond (ltb k 2) freeWord 0) i) × (length t ≡ length t₀)
 
 abbrev μ-loop : tie.MeasureT-loop
 μ-loop t₀ i₀ t i = length t₀ - i

@@ -1,63 +1,51 @@
--- `forget_slot` meets its contract. The invariant: the ranks of the slots passed are lowered.
-use mathlib.Core.Path.{_≡_, refl}
-use Prim.Native.Nat.{_≤_, _-_}
-use lib.ListN.{length, length-set}
-use Rattle.records.specs.Name.{overwritten}
-use Rattle.tables.specs.Order.{rankOf, lowered}
-use Rattle.tables.proofs.OrderLaws.{forget-more, forget-outside, forget-free, forget-done}
+-- `forget_slot` meets its contract.
 use native.Mathlib.Omega.{arith}
 use borrow.Author.Needs.{needs}
+use lib.ListN.{length-set}
+use Rattle.tables.proofs.OrderLaws.{forget-outside, forget-free, forget-octet, forget-done}
 use Rattle.tables.proofs.order.forget_slot.Statement.{statement}
 use Rattle.tables.proofs.order.forget_slot.Tie as tie
 
-abbrev Inv-loop : tie.InvT-loop
-Inv-loop t₀ slot old i₀ t i = (i ≤ 16) × (t ≡ overwritten t₀ 0 (λ j. lowered old (rankOf t₀ j)) i) × (length t ≡ length t₀)
-
-abbrev μ-loop : tie.MeasureT-loop
-μ-loop t₀ slot old i₀ t i = 16 - i
-
-returns : tie.Need-returns Inv-loop μ-loop
+returns : tie.Need-returns
 returns c = forget-outside _ _ (c .if1 .taken)
 
-returns-2 : tie.Need-returns-2 Inv-loop μ-loop
-returns-2 c = forget-free _ _ (c .before .before .if1 .left) (c .if2 .taken)
+returns-2 : tie.Need-returns-2
+returns-2 c = forget-free _ _ (c .before .before .before .if1 .left) (omega arith)
 
-loop-holds : tie.Need-loop-holds Inv-loop μ-loop
-unfolding overwritten
-loop-holds c = (omega arith, refl, refl)
+with-octet-requires : tie.Need-with-octet-requires
+with-octet-requires c κs =
+    let q = c .before in
+    let p = q .before .before in
+    let r = p .before .before .before in
+    let own = forget-octet _ _ (r .before .before .if1 .left) (omega arith) (omega arith) (r .rank-at .ensures) (p .lowered-word .ensures) (q .lowered-word2 .ensures) in
+    (omega arith, own, omega arith)
 
-loop-again : tie.Need-loop-again Inv-loop μ-loop
-loop-again c =
-    let l = c .before .before .before .loop in
-    (omega arith, forget-more _ _ (l .i) (l .inv .1) (c .lowered .ensures), simp length-set (l .inv .2))
-
-returns-3 : tie.Need-returns-3 Inv-loop μ-loop
+returns-3 : tie.Need-returns-3
 returns-3 c =
-    let l = c .before .loop in
-    let b = c .before .before in
-    let e : l .i ≡ 16 = omega arith in
-    forget-done _ _ (b .before .before .if1 .left) (b .if2 .left) (omega arith) (rw e at (l .inv .1))
+    let q = c .before .before in
+    let p = q .before .before in
+    let r = p .before .before .before in
+    forget-done _ _ (r .before .before .if1 .left) (omega arith) (omega arith) (r .rank-at .ensures) (p .lowered-word .ensures) (q .lowered-word2 .ensures)
+    (c .with-octet .ensures)
 
 pub forget-slot-spec : {M : Type 1} → statement M
 forget-slot-spec =
     tie.close
     (tie.spec
-    Inv-loop
-    μ-loop
     returns
-    (λ c. omega arith)
-    (λ c. omega arith)
-    returns-2
-    loop-holds
-    (λ c. omega arith)
-    (λ c. omega arith)
     (λ c κs. search needs)
-    (λ c. omega arith)
-    (λ c. omega arith)
-    (λ c. omega arith)
-    (λ c. omega arith)
-    loop-again
-    (λ c. omega arith)
-    (λ c. omega arith)
+    (λ c. search needs)
+    returns-2
+    (λ c. search needs)
+    (λ c κs. search needs)
+    (λ c. search needs)
+    (λ c. search needs)
+    (λ c κs. search needs)
+    (λ c. search needs)
+    (λ c. search needs)
     (λ c. simp length-set (omega arith))
+    with-octet-requires
+    (λ c. search needs)
+    (λ c. simp length-set (omega arith))
+    (λ c. search needs)
     returns-3)

@@ -1,6 +1,7 @@
 -- `new_slot` meets its contract. The invariant: the search has reached slot i.
-use mathlib.Core.Path.{refl, ap}
+use mathlib.Core.Path.{refl, sym, ap, _∙_}
 use Prim.Native.Nat.{_-_}
+use borrow.Author.Needs.{needs}
 use borrow.Author.Tests.{le-leb, lt-leb}
 use lib.Dec.{leb}
 use Rattle.records.specs.Search.{slotOr}
@@ -21,8 +22,8 @@ loop-holds c = reached-first
 
 loop-again : tie.Need-loop-again Inv-loop μ-loop
 loop-again c =
-    let l = c .before .before .before in
-    reached-next (l .loop .inv) (omega arith) refl (lt-leb 15 (rankOf (l .before .args .t .now) (l .loop .i)) (omega arith))
+    reached-next (c .before .before .before .loop .inv) (omega arith) refl
+    (ap (leb 15) (sym (c .before .rank-at .ensures)) ∙ lt-leb _ _ (c .if2 .left))
 
 returns : tie.Need-returns Inv-loop μ-loop
 unfolding newSlot
@@ -31,8 +32,8 @@ returns c = ap (slotOr 15) (reached-end (c .before .loop .inv) (omega arith))
 returns-2 : tie.Need-returns-2 Inv-loop μ-loop
 unfolding newSlot
 returns-2 c =
-    let l = c .before .before .before in
-    ap (slotOr 15) (reached-hit (l .loop .inv) (omega arith) refl (le-leb 15 (rankOf (l .before .args .t .now) (l .loop .i)) (omega arith)))
+    ap (slotOr 15) (reached-hit (c .before .before .before .loop .inv) (omega arith) refl
+    (ap (leb 15) (sym (c .before .rank-at .ensures)) ∙ le-leb _ _ (c .if2 .taken)))
 
 pub new-slot-spec : {M : Type 1} → statement M
 new-slot-spec =
@@ -41,8 +42,7 @@ new-slot-spec =
     Inv-loop
     μ-loop
     loop-holds
-    (λ c. omega arith)
-    (λ c. omega arith)
+    (λ c κs. search needs)
     (λ c. omega arith)
     (λ c. omega arith)
     loop-again

@@ -1,62 +1,63 @@
--- `use_slot` meets its contract. The invariant: the ranks of the slots passed are raised.
-use mathlib.Core.Path.{_≡_, refl}
-use Prim.Native.Nat.{_≤_, _-_}
-use lib.ListN.{length, length-set}
-use Rattle.records.specs.Name.{overwritten}
-use Rattle.tables.specs.Order.{rankOf, raised}
-use Rattle.tables.proofs.OrderLaws.{use-more, use-outside, use-last, use-done}
+-- `use_slot` meets its contract.
+use mathlib.Core.Path.{sym, _∙_}
 use native.Mathlib.Omega.{arith}
 use borrow.Author.Needs.{needs}
+use lib.ListN.{length-set}
+use Rattle.tables.proofs.OrderLaws.{rank-below, use-outside, use-last, use-octet, use-done}
 use Rattle.tables.proofs.order.use_slot.Statement.{statement}
 use Rattle.tables.proofs.order.use_slot.Tie as tie
 
-abbrev Inv-loop : tie.InvT-loop
-Inv-loop t₀ slot old i₀ t i = (i ≤ 16) × (t ≡ overwritten t₀ 0 (λ j. raised old (rankOf t₀ j)) i) × (length t ≡ length t₀)
-
-abbrev μ-loop : tie.MeasureT-loop
-μ-loop t₀ slot old i₀ t i = 16 - i
-
-returns : tie.Need-returns Inv-loop μ-loop
+returns : tie.Need-returns
 returns c = use-outside _ _ (c .if1 .taken)
 
-returns-2 : tie.Need-returns-2 Inv-loop μ-loop
-returns-2 c = use-last _ _ (c .before .before .if1 .left) (c .if2 .taken)
+returns-2 : tie.Need-returns-2
+returns-2 c = use-last _ _ (c .before .before .before .if1 .left) (sym (c .before .rank-at .ensures) ∙ c .if2 .taken)
 
-loop-holds : tie.Need-loop-holds Inv-loop μ-loop
-unfolding overwritten
-loop-holds c = (omega arith, refl, refl)
+raised-word-requires : tie.Need-raised-word-requires
+raised-word-requires c κs =
+    let a = c .before .before .before .before .before .before .args in
+    omega (arith, rank-below (a .t .now) (a .slot))
 
-loop-again : tie.Need-loop-again Inv-loop μ-loop
-loop-again c =
-    let l = c .before .before .before .loop in
-    (omega arith, use-more _ _ (l .i) (l .inv .1) (c .raised .ensures), simp length-set (l .inv .2))
+raised-word-requires-2 : tie.Need-raised-word-requires-2
+raised-word-requires-2 c κs =
+    let a = c .before .before .before .before .before .before .before .before .args in
+    omega (arith, rank-below (a .t .now) (a .slot))
 
-returns-3 : tie.Need-returns-3 Inv-loop μ-loop
+with-octet-requires : tie.Need-with-octet-requires
+with-octet-requires c κs =
+    let q = c .before in
+    let p = q .before .before in
+    let r = p .before .before .before in
+    let own = use-octet _ _ (r .before .before .if1 .left) (omega arith) (r .rank-at .ensures) (p .raised-word .ensures) (q .raised-word2 .ensures) in
+    (omega arith, own, omega arith)
+
+returns-3 : tie.Need-returns-3
 returns-3 c =
-    let l = c .before .loop in
-    let e : l .i ≡ 16 = omega arith in
-    use-done _ _ (c .before .before .before .before .if1 .left) (omega arith) (rw e at (l .inv .1))
+    let q = c .before .before in
+    let p = q .before .before in
+    let n = p .before .before in
+    let r = n .before in
+    use-done _ _ (r .before .before .if1 .left) (omega arith) (r .rank-at .ensures) (p .raised-word .ensures) (q .raised-word2 .ensures) (n .if2 .left)
+    (c .with-octet .ensures)
 
 pub use-slot-spec : {M : Type 1} → statement M
 use-slot-spec =
     tie.close
     (tie.spec
-    Inv-loop
-    μ-loop
     returns
-    (λ c. omega arith)
-    (λ c. omega arith)
-    returns-2
-    loop-holds
-    (λ c. omega arith)
-    (λ c. omega arith)
     (λ c κs. search needs)
-    (λ c. omega arith)
-    (λ c. omega arith)
-    (λ c. omega arith)
-    (λ c. omega arith)
-    loop-again
-    (λ c. omega arith)
-    (λ c. omega arith)
+    (λ c. search needs)
+    returns-2
+    (λ c. search needs)
+    raised-word-requires
+    (λ c. search needs)
+    (λ c. search needs)
+    raised-word-requires-2
+    (λ c. search needs)
+    (λ c. search needs)
     (λ c. simp length-set (omega arith))
+    with-octet-requires
+    (λ c. search needs)
+    (λ c. simp length-set (omega arith))
+    (λ c. search needs)
     returns-3)
