@@ -18,9 +18,10 @@ use Rattle.records.proofs.Booleans.{and-false, cond-holds}
 use Rattle.records.proofs.Distinguish.{outputs}
 use Rattle.records.proofs.SearchLaws.{first-same}
 use Rattle.tables.specs.Named.{hasKey, named}
-use Rattle.tables.specs.Order.{rankOf, inUse, noEntries}
+use Rattle.tables.specs.Order.{noEntries, allFree}
 use Rattle.tables.specs.Place.{found}
-use Rattle.tables.proofs.WordTables.{rank-none}
+use Rattle.tables.proofs.PlaceLaws.{none-found}
+use Rattle.tables.proofs.WordTables.{none-free}
 use Rattle.checks.specs.declared.sv_publisher.PublisherMatch.the-variants.{NotRegistered}
 use Rattle.checks.specs.GooseSeq.{GooseChecked, gooseChecked}
 use Rattle.checks.specs.Keys.{plainKey}
@@ -72,16 +73,11 @@ module _ (m : Monitor) (v : Remembering) where
 
 -- ---- without reservations and publishers
 
-none-found : (t key : List ℕ) → t ≡ noEntries 224 → found named t key ≡ Nothing
-unfolding found firstFrom
-none-found t key e =
-    first-same (λ i. hasKey t key i && inUse (rankOf t) i) (λ i. false) 0 16
-    (λ i l. rw (e, rank-none 224 (omega arith) i l) (and-false (hasKey (noEntries 224) key i)))
-
 not-bound : (t key : List ℕ) (address : ℕ) → t ≡ noEntries 224 → cbChecked t key address ≡ record { table = t; hijack = false }
 unfolding cbChecked
 not-bound t key address e =
-    cond-holds (λ (c : CbChecked). c ≡ record { table = t; hijack = false }) (eqb (getD key 1 0) 0) refl (ap (boundBy t address) (none-found t key e))
+    cond-holds (λ (c : CbChecked). c ≡ record { table = t; hijack = false }) (eqb (getD key 1 0) 0) refl 
+    (ap (boundBy t address) (none-found named t key (ap allFree e ∙ none-free 224 (omega arith))))
 
 not-registered : (p : List ℕ) (address : ℕ) (svid : List ℕ) → getD p 192 0 ≡ 0 → svPublisher p address svid ≡ NotRegistered
 unfolding svPublisher lastBelow

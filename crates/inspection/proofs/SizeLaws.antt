@@ -11,12 +11,12 @@ use Rattle.records.proofs.NameLaws.{length-overwritten, length-tabulate}
 use Rattle.records.specs.declared.search.Found.{Found}
 use Rattle.records.specs.declared.search.Found.the-variants.{At, Nothing}
 use Rattle.records.specs.Remembered.{after}
-use Rattle.tables.proofs.OrderLaws.{length-reranked}
+use Rattle.tables.proofs.OrderLaws.{length-reranked, rank-set-only, used-only}
 use Rattle.tables.proofs.WordTables.{length-none}
 use Rattle.tables.specs.Column.{wordOf, wordSet, zeroWords}
 use Rattle.tables.specs.Named.{keyStored, named}
 use Rattle.tables.specs.Numbered.{numbered}
-use Rattle.tables.specs.Order.{rankOf, usedRank, usedSlot}
+use Rattle.tables.specs.Order.{rankSet, usedSlot}
 use Rattle.tables.specs.Place.{KeyColumns, found}
 use Rattle.tables.specs.Table.{target, valueOf, stepped}
 use Rattle.tables.specs.WordTable.{Encoding, valueSet, wordTable, oneNumber, twoNumbers, threeNumbers}
@@ -56,8 +56,10 @@ module _ (t : List ℕ) where
       refl
 
   used-long : (slot : ℕ) → AsLong t (usedSlot t slot)
-  unfolding usedSlot
-  used-long slot = cond-holds (AsLong t) (ltb slot 16) (length-reranked t (usedRank (rankOf t) slot)) refl
+  used-long slot = used-only t slot .size
+
+  rank-long : (slot r : ℕ) → AsLong t (rankSet t slot r)
+  rank-long slot r = rank-set-only t slot r .size
 
 values-long : (vs t : List ℕ) (column slot : ℕ) → AsLong t (valueSet t column slot vs)
 values-long [] t column slot = refl
@@ -106,7 +108,7 @@ module _ (t : List ℕ) where
   taken-long : (key : List ℕ) (client : ℕ) (f : Found) → AsLong t (reservedAt t key client f .table)
   unfolding takenAt
   taken-long key client Nothing = refl
-  taken-long key client (At i) = simp (word-long, key-long) refl
+  taken-long key client (At i) = simp (word-long, rank-long, key-long) refl
 
   pub reserved-long : (key : List ℕ) (client : ℕ) → AsLong t (reserved t key client .table)
   unfolding reserved
@@ -114,7 +116,7 @@ module _ (t : List ℕ) where
 
   freed-long : (f : Found) → AsLong t (freedSlot t f)
   freed-long Nothing = refl
-  freed-long (At i) = word-long t 0 i 16
+  freed-long (At i) = rank-long t i 16
 
   pub released-long : (key : List ℕ) (client : ℕ) → AsLong t (released t key client)
   unfolding released allFreed

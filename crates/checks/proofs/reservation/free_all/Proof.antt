@@ -5,7 +5,7 @@ use Rattle.checks.proofs.reservation.free_all.Statement.{statement}
 use Rattle.checks.proofs.reservation.free_all.Tie as tie
 
 returns : tie.Need-returns
-returns c = ?
+returns c = all-freed _ _ (c .before .before .freed-word .ensures) (c .freed-word2 .ensures)
 
 pub free-all-spec : {M : Type 1} → statement M
 free-all-spec = tie.close (tie.spec (λ c κs. search needs) (λ c κs. search needs) (λ c. search needs) (λ c. search needs) (λ c. search needs) returns)

@@ -15,10 +15,14 @@ abbrev μ-loop : tie.MeasureT-loop
 μ-loop t start client out₀ k₀ out k = k
 
 fits : tie.Need-add-out Inv-loop μ-loop
-fits c = ?
+fits c =
+    let l = c .before .before in
+    let a = l .before .before .args in
+    let f = packed-fits _ (l .loop .inv) (omega arith) (c .freed-rank .ensures) (λ j m. freed-octet (a .t .now) (a .client) (a .start + j)) in
+    omega arith
 
 loop-again : tie.Need-loop-again Inv-loop μ-loop
-loop-again c = ?
+loop-again c = packed-next _ (c .before .before .loop .inv) (omega arith) (c .freed-rank .ensures)
 
 returns : tie.Need-returns Inv-loop μ-loop
 returns c = packed-all _ (c .before .loop .inv) (omega arith)

@@ -52,8 +52,7 @@ owned-slot-spec =
     μ-loop
     loop-holds
     (λ c κs. search needs)
-    (λ c. omega arith)
-    (λ c. omega arith)
+    (λ c κs. search needs)
     (λ c. omega arith)
     (λ c. omega arith)
     (λ c. omega arith)
