@@ -1,6 +1,6 @@
 -- Inspections without publishers, reservations and enforcement: what they do to the streams and clocks, and answer from them.
 use Prim.Native.Nat.{ℕ, _≤_}
-use mathlib.Core.Bool.{Bool, true, false, _&&_, cond}
+use mathlib.Core.Bool.{Bool, true, false, cond}
 use mathlib.Core.List.{List, [], _∷_, _++_, foldl}
 use mathlib.Core.Path.{_≡_, refl, sym, ap, _∙_, subst}
 use native.Mathlib.Omega.{arith}
@@ -11,15 +11,12 @@ use Rattle.records.specs.declared.alert.AlertCode.the-variants.{PolicyViolation
 use Rattle.records.specs.declared.frame.GooseFrame.{GooseFrame}
 use Rattle.records.specs.declared.frame.SvFrame.{SvFrame}
 use Rattle.records.specs.declared.result.InspectResult.{InspectResult}
-use Rattle.records.specs.declared.search.Found.the-variants.{Nothing}
 use Rattle.records.specs.Alert.{sourceGoose, sourceSv}
-use Rattle.records.specs.Search.{firstFrom, lastBelow}
+use Rattle.records.specs.Search.{lastBelow}
 use Rattle.records.proofs.Booleans.{and-false, cond-holds}
 use Rattle.records.proofs.Distinguish.{outputs}
-use Rattle.records.proofs.SearchLaws.{first-same}
-use Rattle.tables.specs.Named.{hasKey, named}
+use Rattle.tables.specs.Named.{named}
 use Rattle.tables.specs.Order.{noEntries, allFree}
-use Rattle.tables.specs.Place.{found}
 use Rattle.tables.proofs.PlaceLaws.{none-found}
 use Rattle.tables.proofs.WordTables.{none-free}
 use Rattle.checks.specs.declared.sv_publisher.PublisherMatch.the-variants.{NotRegistered}
@@ -76,7 +73,7 @@ module _ (m : Monitor) (v : Remembering) where
 not-bound : (t key : List ℕ) (address : ℕ) → t ≡ noEntries 224 → cbChecked t key address ≡ record { table = t; hijack = false }
 unfolding cbChecked
 not-bound t key address e =
-    cond-holds (λ (c : CbChecked). c ≡ record { table = t; hijack = false }) (eqb (getD key 1 0) 0) refl 
+    cond-holds (λ (c : CbChecked). c ≡ record { table = t; hijack = false }) (eqb (getD key 1 0) 0) refl
     (ap (boundBy t address) (none-found named t key (ap allFree e ∙ none-free 224 (omega arith))))
 
 not-registered : (p : List ℕ) (address : ℕ) (svid : List ℕ) → getD p 192 0 ≡ 0 → svPublisher p address svid ≡ NotRegistered

@@ -206,7 +206,7 @@ module _ (t : List ℕ) (s : ℕ) where
       used-rank i l =
           by-cases (ℕ-discrete (rankOf t s) 0)
           (λ e. ap (λ (u : List ℕ). rankOf u i) (sym (use-last e)) ∙ same e (ℕ-discrete i s))
-          (λ n. rw (used-is n) (reranked-in t (usedRank (rankOf t) s) z 
+          (λ n. rw (used-is n) (reranked-in t (usedRank (rankOf t) s) z
           (λ j m. beside-below (λ x. raised (rankOf t s) (rankOf t x)) s 0 j (omega arith) (raised-rank _ _ (rank-below t s) (rank-below t j))) i l))
         where
           same : rankOf t s ≡ 0 → Dec (i ≡ s) → rankOf t i ≡ usedRank (rankOf t) s i
