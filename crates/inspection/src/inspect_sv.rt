@@ -70,9 +70,7 @@ fn count_alert(outcome: SvSeqOutcome, limit: u64) -> CheckAlert
             CheckAlert::Nothing
         }
         SvSeqOutcome::CycleWrap => CheckAlert::Nothing,
-        SvSeqOutcome::SuspiciousSmpGap(_) => {
-            CheckAlert::SuspiciousCount
-        }
+        SvSeqOutcome::SuspiciousSmpGap(_) => { CheckAlert::SuspiciousCount }
     }
 }
 
@@ -162,9 +160,7 @@ fn sv_rule(m: &[u64; 1218], address: u64, svid: &[u64; 10]) -> RuleCheck
         return RuleCheck::Rate(0);
     }
     match sv_publisher_on(m, address, svid) {
-        PublisherMatch::WrongAddress => {
-            RuleCheck::Refused(CheckAlert::WrongIed)
-        }
+        PublisherMatch::WrongAddress => { RuleCheck::Refused(CheckAlert::WrongIed) }
         PublisherMatch::NotRegistered => {
             if flag_on(m, STRICT_MODE) {
                 return RuleCheck::Refused(CheckAlert::UnknownSvid);
@@ -206,7 +202,13 @@ fn check_sv_on(m: &mut [u64; 1218], frame: SvFrame) -> CheckAlerts
         smp_rate: frame.smp_rate,
     };
     count_frame_on(m, SV_TOTAL_INSPECTED);
-    sv_checks_on(m, &plain_key(name, frame.svid_len), &frame.dataset_ref, frame.dataset_ref_len, n)
+    sv_checks_on(
+        m,
+        &plain_key(name, frame.svid_len),
+        &frame.dataset_ref,
+        frame.dataset_ref_len,
+        n,
+    )
 }
 
 // Inspects an SV frame.

@@ -9,8 +9,6 @@ use crate::octets::mac_at;
 use crate::octets::name_at;
 use crate::octets::u32_at;
 use crate::octets::u64_at;
-use checks::keys::plain_key;
-use checks::keys::reservation_key;
 use inspection::address::address_of;
 use inspection::inspect_goose::GooseNumbers;
 use inspection::inspect_goose::goose_checks_on;
@@ -27,7 +25,7 @@ fn goose_numbers(o: &[u8]) -> GooseNumbers
 {
     GooseNumbers {
         address: address_of(mac_at(o, 0)),
-        hash: name_hash(name_at(o, 6), o[70]),
+        hash: name_hash(&o[6..70], o[70]),
         st_num: u32_at(o, 72),
         sq_num: u32_at(o, 76),
         test: o[80] != 0,
@@ -43,11 +41,9 @@ fn check_goose_lent(m: &mut [u64; 1218], o: &[u8]) -> CheckAlerts
     ensures { λ r. ⌜ record { monitor = monitorOf (now (m .exit)); answer = alertsOf r }
         ≡ checkedGoose (monitorOf (now (m .entry))) (gooseFrameOf (now (o .entry))) ⌝ }
 {
-    let publisher = plain_key(name_at(o, 6), o[70]);
-    let reservation = reservation_key(true, name_at(o, 6), o[70]);
     let n = goose_numbers(o);
     count_frame_on(m, GOOSE_TOTAL_INSPECTED);
-    goose_checks_on(m, &publisher, &reservation, n)
+    goose_checks_on(m, &name_at(o, 6), o[70], n)
 }
 
 // Inspects a frame, and answers the verdict.

@@ -10,7 +10,6 @@ use crate::octets::name_at;
 use crate::octets::u16_at;
 use crate::octets::u32_at;
 use checks::keys::plain_key;
-use checks::keys::reservation_key;
 use inspection::address::address_of;
 use inspection::inspect_sv::SvNumbers;
 use inspection::inspect_sv::sv_checks_on;
@@ -33,17 +32,21 @@ fn sv_numbers(o: &[u8]) -> SvNumbers
     }
 }
 
-// Counts and checks a frame.
+// Counts and checks a frame. A key or name that is made where it is lent is not copied once more.
 fn check_sv_lent(m: &mut [u64; 1218], o: &[u8]) -> CheckAlerts
     requires { ⌜ length (now o) ≡ 160 ⌝ }
     ensures { λ r. ⌜ record { monitor = monitorOf (now (m .exit)); answer = alertsOf r }
         ≡ checkedSv (monitorOf (now (m .entry))) (svFrameOf (now (o .entry))) ⌝ }
 {
-    let svid = plain_key(name_at(o, 7), o[6]);
-    let dataset = reservation_key(false, name_at(o, 77), o[76]);
     let n = sv_numbers(o);
     count_frame_on(m, SV_TOTAL_INSPECTED);
-    sv_checks_on(m, &svid, &dataset, n)
+    sv_checks_on(
+        m,
+        &plain_key(name_at(o, 7), o[6]),
+        &name_at(o, 77),
+        o[76],
+        n,
+    )
 }
 
 // Inspects a frame in a part of a slice, and answers the verdict: for batches.

@@ -3,9 +3,8 @@ use borrow.Author.Needs.{needs}
 use Rattle.inspection.proofs.report.code_of.Statement.{statement}
 use Rattle.inspection.proofs.report.code_of.Tie as tie
 
-
 pub code-of-spec : {M : Type 1} → statement M
-code-of-spec = 
+code-of-spec =
     tie.close
     (tie.spec
     (λ c. search needs)

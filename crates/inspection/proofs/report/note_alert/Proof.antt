@@ -23,7 +23,7 @@ returns-2 c =
     (c .before .wrapping-increment .ensures) (c .saturating-increment .ensures)
 
 pub note-alert-spec : {M : Type 1} → statement M
-note-alert-spec = 
+note-alert-spec =
     tie.close
     (tie.spec
     (λ c. search needs)

@@ -26,7 +26,7 @@ returns-2 c =
     (code .code-of .ensures) (c .push-alert-with-code .ensures)
 
 pub push-alert-spec : {M : Type 1} → statement M
-push-alert-spec = 
+push-alert-spec =
     tie.close
     (tie.spec
     (λ c κs. search needs)

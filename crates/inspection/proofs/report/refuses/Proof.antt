@@ -3,9 +3,8 @@ use borrow.Author.Needs.{needs}
 use Rattle.inspection.proofs.report.refuses.Statement.{statement}
 use Rattle.inspection.proofs.report.refuses.Tie as tie
 
-
 pub refuses-spec : {M : Type 1} → statement M
-refuses-spec = 
+refuses-spec =
     tie.close
     (tie.spec
     (λ c. search needs)

@@ -3,9 +3,8 @@ use borrow.Author.Needs.{needs}
 use Rattle.inspection.proofs.report.severity_of.Statement.{statement}
 use Rattle.inspection.proofs.report.severity_of.Tie as tie
 
-
 pub severity-of-spec : {M : Type 1} → statement M
-severity-of-spec = 
+severity-of-spec =
     tie.close
     (tie.spec
     (λ c. search needs)
