@@ -19,10 +19,6 @@ use Rattle.tables.specs.Table.{valueOf}
 use Rattle.tables.specs.WordTable.{threeNumbers}
 use Rattle.checks.specs.Rate.{bucketOf, bucketAt, bucketWords, buckets, bucketCall, keptCall, newBucket, nextBucket, rateChecked}
 
--- 80 words are so many at least
-pub long-enough : {n : ℕ} → n ≡ 80 → (m : ℕ) → m ≤ 80 → m ≤ n
-long-enough e m h = omega arith
-
 -- a call of the bucket that is kept
 kept-call : (known : Bool) (w : (ℕ × ℕ) × ℕ) (request : ℕ × ℕ) → bucketCall (ifKnown known (bucketOf w)) request ≡ keptCall (ifKnown known w) request
 kept-call true w request = refl

@@ -7,7 +7,6 @@ ghost use Rattle.tables.specs.Place.{ifKnown};
 ghost use Rattle.checks.specs.GooseSeq.{replays, gooseReplay, outsideTolerance, retxChecked, gooseChecked, numberOr};
 use records::schedule::RetxSchedule;
 use records::search::Found;
-use tables::column::set_word;
 use tables::column::word;
 use tables::named::VALUES;
 use tables::named::enter_key;
@@ -135,9 +134,9 @@ pub fn check_goose_seq_in(
 {
     let place = enter_key(t, key);
     let slot = place.slot;
-    let last_st_num = word(t, STATES, slot);
-    let last_sq_num = word(t, SEQUENCES, slot);
-    let last_us = word(t, TIMES, slot);
+    let last_st_num = t[STATES + slot];
+    let last_sq_num = t[SEQUENCES + slot];
+    let last_us = t[TIMES + slot];
     let replay = goose_replay(
         place.known,
         last_st_num,
@@ -146,18 +145,8 @@ pub fn check_goose_seq_in(
         st_num,
         sq_num,
     );
-    set_word(
-        t,
-        STATES,
-        slot,
-        number_or(replay, last_st_num, st_num as u64),
-    );
-    set_word(
-        t,
-        SEQUENCES,
-        slot,
-        number_or(replay, last_sq_num, sq_num as u64),
-    );
-    set_word(t, TIMES, slot, number_or(replay, last_us, now_us));
+    t[STATES + slot] = number_or(replay, last_st_num, st_num as u64);
+    t[SEQUENCES + slot] = number_or(replay, last_sq_num, sq_num as u64);
+    t[TIMES + slot] = number_or(replay, last_us, now_us);
     replay
 }

@@ -1,14 +1,13 @@
 // Rate limits of MMS requests, carried over from industrial/iec61850-monitor/src/lib.rs of craton-shield a31d888527 (Apache-2.0) and
 // changed: a table by number.
 ghost use mathlib.Core.Path.{_≡_};
+ghost use Prim.Native.Nat.{_<_};
 ghost use lib.ListN.{length};
 ghost use Rattle.tables.specs.Place.{ifKnown};
 ghost use Rattle.checks.specs.Rate.{bucketAt, bucketCall, rateChecked};
 use records::bucket::BucketCall;
 use records::bucket::RateBucket;
-use tables::column::set_word;
-use tables::column::word;
-use tables::column::word16;
+use tables::column::narrowed;
 use tables::numbered::VALUES;
 use tables::numbered::enter_number;
 
@@ -21,13 +20,13 @@ const REFILLS: usize = VALUES + 32;
 
 // The bucket of a slot.
 fn bucket_at(t: &[u64], slot: usize) -> RateBucket
-    requires { ⌜ length (now t) ≡ 80 ⌝ }
+    requires { ⌜ (length (now t) ≡ 80) × (slot < 16) ⌝ }
     ensures { λ r. ⌜ r ≡ bucketAt (now (t .entry)) slot ⌝ }
 {
     RateBucket {
-        tokens: word16(t, TOKENS, slot),
-        capacity: word16(t, CAPACITIES, slot),
-        last_refill_us: word(t, REFILLS, slot),
+        tokens: narrowed(t[TOKENS + slot]),
+        capacity: narrowed(t[CAPACITIES + slot]),
+        last_refill_us: t[REFILLS + slot],
     }
 }
 
@@ -55,8 +54,8 @@ pub fn rate_check_in(t: &mut [u64], key: u32, max_rate: u16, now_us: u64) -> boo
     let kept = bucket_at(t, slot);
     let call = bucket_call(place.known, kept, max_rate, now_us);
     let bucket = call.bucket;
-    set_word(t, TOKENS, slot, bucket.tokens as u64);
-    set_word(t, CAPACITIES, slot, bucket.capacity as u64);
-    set_word(t, REFILLS, slot, bucket.last_refill_us);
+    t[TOKENS + slot] = bucket.tokens as u64;
+    t[CAPACITIES + slot] = bucket.capacity as u64;
+    t[REFILLS + slot] = bucket.last_refill_us;
     call.allowed
 }

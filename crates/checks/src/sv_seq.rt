@@ -4,8 +4,6 @@ ghost use mathlib.Core.Path.{_≡_};
 ghost use lib.ListN.{length};
 ghost use Rattle.tables.specs.Place.{ifKnown};
 ghost use Rattle.checks.specs.SvSeq.{countOutcome, svOutcome, outcomeNumber, isReplay, countOr, svChecked};
-use tables::column::set_word;
-use tables::column::word;
 use tables::named::VALUES;
 use tables::named::enter_key;
 
@@ -85,13 +83,8 @@ pub fn check_sv_seq_in(t: &mut [u64], svid: &[u64; 10], smp_cnt: u16) -> SvSeqOu
 {
     let place = enter_key(t, svid);
     let slot = place.slot;
-    let last = word(t, VALUES, slot);
+    let last = t[VALUES + slot];
     let outcome = sv_outcome(place.known, last, smp_cnt);
-    set_word(
-        t,
-        VALUES,
-        slot,
-        count_or(outcome.is_replay(), last, smp_cnt),
-    );
+    t[VALUES + slot] = count_or(outcome.is_replay(), last, smp_cnt);
     outcome
 }

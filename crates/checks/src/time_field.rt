@@ -4,8 +4,6 @@ ghost use mathlib.Core.Path.{_≡_};
 ghost use lib.ListN.{length};
 ghost use Rattle.tables.specs.Place.{ifKnown};
 ghost use Rattle.checks.specs.TimeField.{hasClock, clockAlert, timeChecked};
-use tables::column::set_word;
-use tables::column::word;
 use tables::numbered::VALUES;
 use tables::numbered::enter_number;
 
@@ -67,10 +65,10 @@ pub fn check_time_field_in(
     }
     let place = enter_number(t, address);
     let slot = place.slot;
-    let kept_seconds = word(t, SECONDS, slot);
-    let kept_fraction = word(t, FRACTIONS, slot);
-    set_word(t, SECONDS, slot, seconds as u64);
-    set_word(t, FRACTIONS, slot, fraction as u64);
+    let kept_seconds = t[SECONDS + slot];
+    let kept_fraction = t[FRACTIONS + slot];
+    t[SECONDS + slot] = seconds as u64;
+    t[FRACTIONS + slot] = fraction as u64;
     clock_alerts(
         place.known,
         kept_seconds,

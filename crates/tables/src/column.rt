@@ -15,13 +15,19 @@ pub fn word(t: &[u64], column: usize, slot: usize) -> u64
     t[column + slot]
 }
 
-// The same as a number of 16 bits, 65535 where it has more.
+// A word as a number of 16 bits, 65535 where it has more.
+pub fn narrowed(x: u64) -> u16
+    ensures { λ r. ⌜ r ≡ min x 65535 ⌝ }
+{
+    if x < 65535 { x as u16 } else { 65535 }
+}
+
+// The word of a slot as such a number.
 pub fn word16(t: &[u64], column: usize, slot: usize) -> u16
     requires { ⌜ column + 16 ≤ length (now t) ⌝ }
     ensures { λ r. ⌜ r ≡ min (wordOf (now (t .entry)) column slot) 65535 ⌝ }
 {
-    let x = word(t, column, slot);
-    if x < 65535 { x as u16 } else { 65535 }
+    narrowed(word(t, column, slot))
 }
 
 // Sets that word; a slot of 16 or more changes nothing.

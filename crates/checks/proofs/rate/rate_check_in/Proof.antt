@@ -1,48 +1,49 @@
 -- `rate_check_in` meets its contract.
+use Prim.Native.Nat.{_<_}
+use mathlib.Core.Path.{_≡_, sym, _∙_}
 use native.Mathlib.Omega.{arith}
-use Rattle.checks.proofs.RateLaws.{long-enough, rate-checked}
-use mathlib.Core.Path.{_∙_}
 use borrow.Author.Needs.{needs}
+use lib.ListN.{length, length-set}
+use Rattle.tables.proofs.PlaceLaws.{entered-below}
+use Rattle.tables.proofs.WordTables.{word-set}
+use Rattle.tables.specs.Numbered.{numbered}
+use Rattle.checks.proofs.RateLaws.{rate-checked}
 use Rattle.checks.proofs.rate.rate_check_in.Statement.{statement}
 use Rattle.checks.proofs.rate.rate_check_in.Tie as tie
 
-set-word-requires-2 : tie.Need-set-word-requires-2
-set-word-requires-2 c κs =
-    let e = c .before .before .before .before .before .before .before .before .before .before .before .before in
-    long-enough (c .before .before .before .t2 .given ∙ e .t .given ∙ e .before .before .before .before .pre) 64 (omega arith)
+-- the table has its size, and the slot that the request used is one of the sixteen
+inside : (s : tie.After-t) → (length (s .before .enter-number .last .0) ≡ 80) × (s .before .enter-number .result .slot < 16)
+inside s = (s .t .given ∙ s .before .before .before .before .pre, entered-below numbered _ _ (s .before .enter-number .ensures))
 
-set-word-requires-3 : tie.Need-set-word-requires-3
-set-word-requires-3 c κs =
-    let d = c .before .before .before .before .before .before .before in
-    let e = d .before .before .before .before .before .before .before .before .before in
-    long-enough (c .before .before .t3 .given ∙ d .t2 .given ∙ e .t .given ∙ e .before .before .before .before .pre) 80 (omega arith)
-
-same-length : tie.Need-same-length
-same-length c =
-    let d = c .before .before .before .before .before in
-    let e = d .before .before .before .before .before in
-    c .before .t4 .given ∙ d .t3 .given ∙ e .t2 .given ∙ e .before .before .before .before .before .before .before .before .before .t .given
+-- where the request was entered
+abbrev entered-at : tie.After-struct-known → tie.After-t
+entered-at c = c .before .before .before .before .before .before
 
 returns : tie.Need-returns
 returns c =
-    let z = c .before .before in
-    let y = z .before .before .before .before in
-    let x = y .before .before .before .before .before in
-    let l = x .before .before .before .before in
-    rate-checked _ _ _ _ (l .before .before .before .before .before .enter-number .ensures) (l .before .bucket-at .ensures) (l .bucket-call .ensures)
-    (x .set-word .ensures) (y .set-word2 .ensures) (z .set-word3 .ensures)
+    let l = c .before .before .before in
+    let s = entered-at (c .before) in
+    let h = inside s .1 in
+    rate-checked _ _ _ _ (s .before .enter-number .ensures) (l .before .bucket-at .ensures) (l .bucket-call .ensures)
+    (sym (word-set _ _ h 32 _)) (sym (word-set _ _ h 48 _)) (sym (word-set _ _ h 64 _))
 
 pub rate-check-in-spec : {M : Type 1} → statement M
 rate-check-in-spec =
     tie.close
     (tie.spec
     (λ c κs. search needs)
-    (λ c κs. search needs)
-    (λ c κs. search needs)
-    (λ c. search needs)
+    (λ c κs. inside (c .before .before))
     (λ c κs. search needs)
     (λ c. search needs)
-    set-word-requires-2
-    set-word-requires-3
-    same-length
+    (λ c. omega (arith, inside (entered-at c)))
+    (λ c. omega (arith, inside (entered-at c)))
+    (λ c. omega (arith, inside (entered-at c)))
+    (λ c. search needs)
+    (λ c. omega (arith, inside (entered-at (c .before))))
+    (λ c. omega (arith, inside (entered-at (c .before))))
+    (λ c. simp length-set (omega (arith, inside (entered-at (c .before)))))
+    (λ c. omega (arith, inside (entered-at (c .before))))
+    (λ c. omega (arith, inside (entered-at (c .before))))
+    (λ c. simp length-set (omega (arith, inside (entered-at (c .before)))))
+    (λ c. search needs)
     returns)
