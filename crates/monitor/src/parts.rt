@@ -8,6 +8,7 @@ ghost use Rattle.checks.specs.GoosePublisher.{goosePublisher};
 ghost use Rattle.checks.specs.GooseSeq.{retxChecked};
 ghost use Rattle.checks.specs.MmsRule.{firstRule, ruleReadOnly, ruleRate};
 ghost use Rattle.checks.specs.SvPublisher.{svPublisher, publisherRate};
+ghost use Rattle.tables.specs.Order.{allFree};
 use checks::goose_publisher::add_goose_publisher_in;
 use checks::goose_publisher::goose_publisher;
 use checks::goose_seq::check_goose_seq_in;
@@ -30,6 +31,7 @@ use checks::sv_seq::check_sv_seq_in;
 use checks::time_field::check_time_field_in;
 use records::schedule::RetxSchedule;
 use records::search::Found;
+use tables::order::no_entries;
 
 // Checks a frame's count.
 fn check_sv_seq_lent(m: &mut [u64], svid: &[u64; 10], smp_cnt: u16) -> SvSeqOutcome
@@ -125,6 +127,20 @@ pub fn check_cb_on(m: &mut [u64; 1218], key: &[u64; 10], address: u64) -> bool
     ensures { λ r. ⌜ record { monitor = monitorOf (now (m .exit)); answer = r } ≡ cbOn (monitorOf (now (m .entry))) (now (key .entry)) address ⌝ }
 {
     check_cb_lent(m, key, address)
+}
+
+// Whether no control block is reserved.
+fn no_reservations_lent(m: &[u64]) -> bool
+    requires { ⌜ length (now m) ≡ 1218 ⌝ }
+    ensures { λ r. ⌜ r ≡ allFree (monitorOf (now (m .entry)) .«cb_reservations») ⌝ }
+{
+    no_entries(&m[994..1218])
+}
+
+pub fn no_reservations_on(m: &[u64; 1218]) -> bool
+    ensures { λ r. ⌜ r ≡ allFree (monitorOf (now (m .entry)) .«cb_reservations») ⌝ }
+{
+    no_reservations_lent(m)
 }
 
 // A SelectControl.
