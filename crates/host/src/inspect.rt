@@ -1,4 +1,5 @@
-// The inspections by value as C exports: a frame of numbers, or the octets of an SV frame, and the result in numbers.
+// The inspections by value as C exports: a frame of numbers, or the octets of an SV frame, and the result in numbers. Each inspects on the monitor that
+// it was handed, so that this is copied once less.
 ghost use mathlib.Core.Path.{_≡_};
 ghost use Rattle.wire.specs.Sv.{svFrame};
 ghost use Rattle.monitor.specs.Monitor.{monitorOf};
@@ -15,62 +16,80 @@ use crate::frame::mms_frame_of;
 use crate::result::HostInspected;
 use crate::result::HostParsed;
 use crate::result::HostRawInspected;
-use crate::result::host_inspected;
-use crate::result::host_raw_inspected;
+use crate::result::host_result;
 use inspection::iec61850_monitor::Iec61850Monitor;
+use inspection::inspect_goose::inspect_goose_on;
+use inspection::inspect_mms::inspect_mms_on;
+use inspection::inspect_sv::inspect_raw_sv_on;
+use inspection::inspect_sv::inspect_sv_on;
 use records::frame::SvFrame;
 use wire::sv::parse_sv;
 
 // The monitor after an MMS frame, and the result.
 #[no_mangle]
 pub extern "C" fn mokyndu_inspect_mms(
-    monitor: Iec61850Monitor,
+    mut monitor: Iec61850Monitor,
     frame: HostMmsFrame,
 ) -> HostInspected
     ensures { λ r. ⌜ record { monitor = monitorOf (r .monitor .words); answer = r .result }
         ≡ answered hostResult (inspectMms (monitorOf (monitor .words)) (mmsFrameOf frame)) ⌝ }
 {
     let request = mms_frame_of(frame);
-    let inspected = monitor.inspect_mms(request);
-    host_inspected(inspected)
+    let result = inspect_mms_on(&mut monitor.words, request);
+    HostInspected {
+        monitor: monitor,
+        result: host_result(result),
+    }
 }
 
 // The monitor after a GOOSE frame, and the result.
 #[no_mangle]
 pub extern "C" fn mokyndu_inspect_goose(
-    monitor: Iec61850Monitor,
+    mut monitor: Iec61850Monitor,
     frame: HostGooseFrame,
 ) -> HostInspected
     ensures { λ r. ⌜ record { monitor = monitorOf (r .monitor .words); answer = r .result }
         ≡ answered hostResult (inspectGoose (monitorOf (monitor .words)) (gooseFrameOf frame)) ⌝ }
 {
     let message = goose_frame_of(frame);
-    let inspected = monitor.inspect_goose(message);
-    host_inspected(inspected)
+    let result = inspect_goose_on(&mut monitor.words, message);
+    HostInspected {
+        monitor: monitor,
+        result: host_result(result),
+    }
 }
 
 // The monitor after an SV frame, and the result.
 #[no_mangle]
-pub extern "C" fn mokyndu_inspect_sv(monitor: Iec61850Monitor, frame: SvFrame) -> HostInspected
+pub extern "C" fn mokyndu_inspect_sv(mut monitor: Iec61850Monitor, frame: SvFrame) -> HostInspected
     ensures { λ r. ⌜ record { monitor = monitorOf (r .monitor .words); answer = r .result }
         ≡ answered hostResult (inspectSv (monitorOf (monitor .words)) frame) ⌝ }
 {
-    let inspected = monitor.inspect_sv(frame);
-    host_inspected(inspected)
+    let result = inspect_sv_on(&mut monitor.words, frame);
+    HostInspected {
+        monitor: monitor,
+        result: host_result(result),
+    }
 }
 
 // The monitor after the octets of an SV frame, and the result; octets that cannot be read leave the monitor, and are not allowed.
 #[no_mangle]
 pub extern "C" fn mokyndu_inspect_raw_sv(
-    monitor: Iec61850Monitor,
+    mut monitor: Iec61850Monitor,
     octets: &[u8],
     timestamp_us: u64,
 ) -> HostRawInspected
     ensures { λ r. ⌜ record { monitor = monitorOf (r .monitor .words); answer = (r .result, r .error) }
         ≡ answered rawResult (inspectRawSv (monitorOf (monitor .words)) (now (octets .entry)) «timestamp_us») ⌝ }
 {
-    let inspected = monitor.inspect_raw_sv(octets, timestamp_us);
-    host_raw_inspected(inspected)
+    let raw = inspect_raw_sv_on(&mut monitor.words, octets, timestamp_us);
+    let answer = raw.answer;
+    let result = raw.result;
+    HostRawInspected {
+        monitor: monitor,
+        result: host_result(result),
+        error: parsed_error(answer),
+    }
 }
 
 // The frame in the octets of an SV frame on the wire, and the error's number, 255 where it was read; the default frame beside an error.

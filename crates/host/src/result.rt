@@ -2,14 +2,11 @@
 ghost use mathlib.Core.Path.{_≡_};
 ghost use Rattle.monitor.specs.Monitor.{monitorOf};
 ghost use Rattle.host.specs.Flag.{addedError};
-ghost use Rattle.host.specs.Result.{hostAlert, hostResult, rawResult, answered};
+ghost use Rattle.host.specs.Result.{hostAlert, hostResult, answered};
 use crate::flag::added_error;
 use crate::flag::flag_number;
-use crate::flag::parsed_error;
 use inspection::iec61850_monitor::Configured;
 use inspection::iec61850_monitor::Iec61850Monitor;
-use inspection::iec61850_monitor::Inspected;
-use inspection::iec61850_monitor::RawInspected;
 use records::alert::CodedAlert;
 use records::frame::SvFrame;
 use records::result::InspectResult;
@@ -130,36 +127,5 @@ pub fn host_configured(c: Configured) -> HostConfigured
     HostConfigured {
         monitor: monitor,
         error: added_error(answer),
-    }
-}
-
-// The answer of an inspection in numbers.
-pub fn host_inspected(i: Inspected) -> HostInspected
-    ensures { λ r. ⌜ record { monitor = monitorOf (r .monitor .words); answer = r .result }
-        ≡ answered hostResult (record { monitor = monitorOf (i .monitor .words); answer = i .result }) ⌝ }
-{
-    let monitor = i.monitor;
-    let result = i.result;
-    let numbers = host_result(result);
-    HostInspected {
-        monitor: monitor,
-        result: numbers,
-    }
-}
-
-// The answer of a raw frame's inspection in numbers.
-pub fn host_raw_inspected(i: RawInspected) -> HostRawInspected
-    ensures { λ r. ⌜ record { monitor = monitorOf (r .monitor .words); answer = (r .result, r .error) }
-        ≡ answered rawResult (record { monitor = monitorOf (i .monitor .words); answer = i .raw }) ⌝ }
-{
-    let monitor = i.monitor;
-    let raw = i.raw;
-    let answer = raw.answer;
-    let result = raw.result;
-    let numbers = host_result(result);
-    HostRawInspected {
-        monitor: monitor,
-        result: numbers,
-        error: parsed_error(answer),
     }
 }
