@@ -1,5 +1,6 @@
 pub mod AddressLaws
 pub mod AlertLaws
+pub mod ClockLaws
 pub mod HijackLaws
 pub mod StageLaws
 pub mod SizeLaws

@@ -131,19 +131,18 @@ count-then-rate limit rates CycleWrap = refl
 count-then-rate limit rates (SuspiciousSmpGap gap) = refl
 
 pub clock-and-count :
-    (svid : List ℕ) (n : SvNumbers) (rate : ℕ) (m : Monitor) {limit gap : ℕ} {timed counted : Monitor} {alert : Bool} {outcome : SvSeqOutcome}
+    (svid : List ℕ) (n : SvNumbers) (rate : ℕ) (m : Monitor) {gap : ℕ} {timed counted : Monitor} {alert : Bool} {outcome : SvSeqOutcome}
     {a : List Finding}
-    → limit ≡ timeMaxForwardJump m
-    → record { monitor = timed; answer = alert } ≡ timeFieldOn m limit (n .address) (n .seconds, n .fraction)
+    → record { monitor = timed; answer = alert } ≡ timeFieldOn m (timeMaxForwardJump m) (n .address) (n .seconds, n .fraction)
     → record { monitor = counted; answer = outcome } ≡ svSeqOn timed svid (n .«smp_cnt»)
     → gap ≡ svMaxSmpCntGap counted
     → a ≡ clockFindings alert ++ countFindings gap (rateFindings (n .«smp_rate») rate) outcome
     → record { monitor = counted; answer = a } ≡ svTimeField svid n rate m
 unfolding svTimeField
-clock-and-count svid n rate m {alert = alert} {outcome = outcome} l t s g h =
+clock-and-count svid n rate m {alert = alert} {outcome = outcome} t s g h =
     ends _ (h ∙ ap (λ (gap : ℕ). clockFindings alert ++ countFindings gap (rateFindings (n .«smp_rate») rate) outcome) g)
     ∙ ap (svCount svid n rate (clockFindings alert)) s
-    ∙ ap (svClock svid n rate) (t ∙ ap (λ (limit : ℕ). timeFieldOn m limit (n .address) (n .seconds, n .fraction)) l)
+    ∙ ap (svClock svid n rate) t
 
 -- a frame by the key and the address that the code makes of it
 pub sv-checked :
@@ -197,19 +196,18 @@ module _ (m : Monitor) (address : ℕ) (name : List ℕ) {count : ℕ} (e : coun
       ap (λ (x : Found). not (isFound x)) (sym h ∙ q) ∙ sym (and-yes (answered (ap (ltb 0) e) (nonzero _ d)) refl)
 
 pub clock-and-stream :
-    (n : GooseNumbers) (m : Monitor) {limit : ℕ} {timed stored : Monitor} {alert outside replay : Bool} {key : List ℕ} {a : List Finding}
-    → limit ≡ timeMaxForwardJump m
-    → record { monitor = timed; answer = alert } ≡ timeFieldOn m limit (n .address) (n .seconds, n .fraction)
+    (n : GooseNumbers) (m : Monitor) {timed stored : Monitor} {alert outside replay : Bool} {key : List ℕ} {a : List Finding}
+    → record { monitor = timed; answer = alert } ≡ timeFieldOn m (timeMaxForwardJump m) (n .address) (n .seconds, n .fraction)
     → outside ≡ retransmitted timed n
     → key ≡ streamKey n
     → record { monitor = stored; answer = replay } ≡ gooseSeqOn timed key (timedNumbers n)
     → a ≡ clockFindings alert ++ streamFindings replay outside
     → record { monitor = stored; answer = a } ≡ gooseTimeField n m
 unfolding gooseTimeField
-clock-and-stream n m {timed = timed} {alert = alert} {replay = replay} l t o k s h =
+clock-and-stream n m {timed = timed} {alert = alert} {replay = replay} t o k s h =
     ends _ (h ∙ ap (λ (b : Bool). clockFindings alert ++ streamFindings replay b) o)
     ∙ ap (gooseStream (clockFindings alert) (retransmitted timed n)) (s ∙ ap (λ (key : List ℕ). gooseSeqOn timed key (timedNumbers n)) k)
-    ∙ ap (gooseClock n) (t ∙ ap (λ (limit : ℕ). timeFieldOn m limit (n .address) (n .seconds, n .fraction)) l)
+    ∙ ap (gooseClock n) t
 
 pub goose-checked :
     (m : Monitor) (f : GooseFrame) {address hash : ℕ} {counted : Monitor} {c : Checked}

@@ -12,6 +12,7 @@ ghost use Rattle.inspection.specs.InspectGoose.{streamFindings, retransm
 ghost use Rattle.inspection.specs.InspectGoose.{gooseReadBy, gooseTest, blocked, checkedGoose, inspectGoose};
 ghost use Rattle.inspection.specs.Report.{clockFindings, findingsOf, alertsOf, withVerdict};
 use crate::address::address_of;
+use crate::clock::clock_checked;
 use crate::hijack::hijacked;
 use crate::report::CheckAlert;
 use crate::report::CheckAlerts;
@@ -22,7 +23,6 @@ use crate::report::verdict_on;
 use checks::keys::goose_key;
 use checks::keys::plain_key;
 use monitor::parts::check_goose_seq_on;
-use monitor::parts::check_time_field_on;
 use monitor::parts::goose_publisher_count_on;
 use monitor::parts::goose_publisher_on;
 use monitor::parts::retx_anomaly_on;
@@ -30,7 +30,6 @@ use monitor::settings::BLOCK_TEST_FRAMES;
 use monitor::settings::RETX_ENFORCE;
 use monitor::settings::flag_on;
 use monitor::settings::retx_schedule_on;
-use monitor::settings::time_max_forward_jump_s_on;
 use monitor::totals::GOOSE_TOTAL_INSPECTED;
 use monitor::totals::count_frame_on;
 use records::alert::SOURCE_IEC61850_GOOSE;
@@ -92,8 +91,7 @@ fn retransmitted(m: &[u64; 1218], n: GooseNumbers) -> bool
 fn goose_time_field(m: &mut [u64; 1218], n: GooseNumbers) -> CheckAlerts
     ensures { λ r. ⌜ record { monitor = monitorOf (now (m .exit)); answer = alertsOf r } ≡ gooseTimeField n (monitorOf (now (m .entry))) ⌝ }
 {
-    let limit = time_max_forward_jump_s_on(m);
-    let clock = check_time_field_on(m, limit, n.address, n.seconds, n.fraction);
+    let clock = clock_checked(m, n.address, n.seconds, n.fraction);
     let outside = retransmitted(m, n);
     let key = goose_key(n.address, n.hash);
     let replay = check_goose_seq_on(m, &key, n.st_num, n.sq_num, n.timestamp_us);

@@ -12,6 +12,7 @@ ghost use Rattle.inspection.specs.InspectSv.{rateFindings, countFindings
 ghost use Rattle.inspection.specs.InspectSv.{svReadBy, checkedSv, inspectSv, inspectRawSv};
 ghost use Rattle.inspection.specs.Report.{clockFindings, findingsOf, alertsOf, withVerdict};
 use crate::address::address_of;
+use crate::clock::clock_checked;
 use crate::hijack::hijacked;
 use crate::report::CheckAlert;
 use crate::report::CheckAlerts;
@@ -24,7 +25,6 @@ use checks::keys::plain_key;
 use checks::sv_publisher::PublisherMatch;
 use checks::sv_seq::SvSeqOutcome;
 use monitor::parts::check_sv_seq_on;
-use monitor::parts::check_time_field_on;
 use monitor::parts::publisher_rate_on;
 use monitor::parts::sv_publisher_count_on;
 use monitor::parts::sv_publisher_on;
@@ -32,7 +32,6 @@ use monitor::settings::STRICT_MODE;
 use monitor::settings::SV_MAX_SMP_CNT_GAP;
 use monitor::settings::flag_on;
 use monitor::settings::setting_on;
-use monitor::settings::time_max_forward_jump_s_on;
 use monitor::totals::SV_TOTAL_INSPECTED;
 use monitor::totals::count_frame_on;
 use records::alert::SOURCE_IEC61850_SV;
@@ -115,8 +114,7 @@ fn sv_time_field(m: &mut [u64; 1218], svid: &[u64; 10], n: SvNumbers, rate: u16)
     ensures { λ r. ⌜ record { monitor = monitorOf (now (m .exit)); answer = alertsOf r }
         ≡ svTimeField (now (svid .entry)) n rate (monitorOf (now (m .entry))) ⌝ }
 {
-    let limit = time_max_forward_jump_s_on(m);
-    let clock = check_time_field_on(m, limit, n.address, n.seconds, n.fraction);
+    let clock = clock_checked(m, n.address, n.seconds, n.fraction);
     let outcome = check_sv_seq_on(m, svid, n.smp_cnt);
     let max_gap = setting_on(m, SV_MAX_SMP_CNT_GAP);
     sv_alerts(clock, outcome, max_gap, n.smp_rate, rate)

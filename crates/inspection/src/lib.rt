@@ -1,5 +1,6 @@
 // The inspections of MMS requests, GOOSE messages and sampled values, on a monitor's words and by value.
 pub mod address;
+pub mod clock;
 pub mod hijack;
 pub mod iec61850_monitor;
 pub mod inspect_goose;

@@ -11,19 +11,9 @@ returns c =
     let key = seq .before .before .before in
     let retx = key .before in
     let time = retx .before .before in
-    let jump = time .before .before in
-    let a = jump .before .before .args in
-    clock-and-stream (a .n) (monitorOf (a .m .now)) (jump .time-max-forward-jump-s-on .ensures) (time .check-time-field-on .ensures)
-    (retx .retransmitted .ensures) (key .goose-key .ensures) (seq .check-goose-seq-on .ensures) (c .goose-alerts .ensures)
+    let a = time .before .before .args in
+    clock-and-stream (a .n) (monitorOf (a .m .now)) (time .clock-checked .ensures) (retx .retransmitted .ensures) (key .goose-key .ensures)
+    (seq .check-goose-seq-on .ensures) (c .goose-alerts .ensures)
 
 pub goose-time-field-spec : {M : Type 1} → statement M
-goose-time-field-spec =
-    tie.close
-    (tie.spec
-    (λ c κs. search needs)
-    (λ c κs. search needs)
-    (λ c κs. search needs)
-    (λ c κs. search needs)
-    (λ c κs. search needs)
-    (λ c κs. search needs)
-    returns)
+goose-time-field-spec = tie.close (tie.spec (λ c κs. search needs) (λ c κs. search needs) (λ c κs. search needs) (λ c κs. search needs) (λ c κs. search needs) returns)

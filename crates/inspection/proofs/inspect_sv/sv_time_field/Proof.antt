@@ -10,18 +10,9 @@ returns c =
     let gap = c .before in
     let seq = gap .before .before in
     let time = seq .before .before in
-    let jump = time .before .before in
-    let a = jump .before .before .args in
-    clock-and-count (a .svid .now) (a .n) (a .rate) (monitorOf (a .m .now)) (jump .time-max-forward-jump-s-on .ensures)
-    (time .check-time-field-on .ensures) (seq .check-sv-seq-on .ensures) (gap .setting-on .ensures) (c .sv-alerts .ensures)
+    let a = time .before .before .args in
+    clock-and-count (a .svid .now) (a .n) (a .rate) (monitorOf (a .m .now)) (time .clock-checked .ensures) (seq .check-sv-seq-on .ensures)
+    (gap .setting-on .ensures) (c .sv-alerts .ensures)
 
 pub sv-time-field-spec : {M : Type 1} → statement M
-sv-time-field-spec =
-    tie.close
-    (tie.spec
-    (λ c κs. search needs)
-    (λ c κs. search needs)
-    (λ c κs. search needs)
-    (λ c κs. search needs)
-    (λ c κs. search needs)
-    returns)
+sv-time-field-spec = tie.close (tie.spec (λ c κs. search needs) (λ c κs. search needs) (λ c κs. search needs) (λ c κs. search needs) returns)
