@@ -23,7 +23,7 @@ loop-holds c = reached-first
 loop-again : tie.Need-loop-again Inv-loop μ-loop
 loop-again c =
     reached-next (c .before .before .before .loop .inv) (omega arith) refl
-    (ap (leb 15) (sym (c .before .rank-at .ensures)) ∙ lt-leb _ _ (c .if2 .left))
+    (ap (leb 15) (sym (c .before .rank-at .ensures)) ∙ lt-leb 15 (c .before .rank-at .result) (omega arith))
 
 returns : tie.Need-returns Inv-loop μ-loop
 unfolding newSlot
@@ -33,7 +33,7 @@ returns-2 : tie.Need-returns-2 Inv-loop μ-loop
 unfolding newSlot
 returns-2 c =
     ap (slotOr 15) (reached-hit (c .before .before .before .loop .inv) (omega arith) refl
-    (ap (leb 15) (sym (c .before .rank-at .ensures)) ∙ le-leb _ _ (c .if2 .taken)))
+    (ap (leb 15) (sym (c .before .rank-at .ensures)) ∙ le-leb 15 (c .before .rank-at .result) (omega arith)))
 
 pub new-slot-spec : {M : Type 1} → statement M
 new-slot-spec =
