@@ -4,7 +4,6 @@ use mathlib.Core.List.{List, [], _∷_, head-eq-of-cons-eq, tail-eq-of-cons-eq}
 use mathlib.Core.Logic.{_↔_, by-cases}
 use mathlib.Core.Path.{_≡_, refl, sym, ap, _∙_}
 use native.Mathlib.Decide.{decLt}
-use native.Mathlib.Nat.{not-suc-le-zero}
 use native.Mathlib.Numerals.{add-one}
 use native.Mathlib.Omega.{arith}
 use borrow.Author.Tests.{lt-ltb, le-ltb}
@@ -15,9 +14,9 @@ use Rattle.records.proofs.NameLaws.{tabulate-at, tabulate-same, padded-at, leng
 use Rattle.records.proofs.OctetLaws.{octets-take}
 use Rattle.records.specs.Legal.{Octets, OctetArray}
 use Rattle.records.specs.Name.{validLen, nameOf, tabulate, octetAt, padded, overwritten}
-use Rattle.tables.proofs.PackedLaws.{packed-same}
+use Rattle.tables.proofs.PackedLaws.{packed-same, packed-octet}
 use Rattle.tables.specs.Key.{nameWord, summed, keyOf}
-use Rattle.tables.specs.Packed.{packed}
+use Rattle.tables.specs.Packed.{packed, octetOf}
 
 -- ---- the words of a name
 
@@ -74,11 +73,8 @@ module _ (octets : List ℕ) (len : ℕ) (size : length octets ≡ 64) where
 
 -- octets packed into equal words are equal
 packed-injective : (f g : ℕ → ℕ) (n : ℕ) → ((k : ℕ) → f k < 256) → ((k : ℕ) → g k < 256) → packed f n ≡ packed g n → (k : ℕ) → k < n → f k ≡ g k
-unfolding packed
-packed-injective f g zero a b e k h = absurd (not-suc-le-zero h)
-packed-injective f g (suc n) a b e zero h = omega (arith, a 0, b 0)
-packed-injective f g (suc n) a b e (suc k) h =
-    packed-injective (λ k. f (suc k)) (λ k. g (suc k)) n (λ k. a (suc k)) (λ k. b (suc k)) (omega (arith, a 0, b 0)) k (omega arith)
+packed-injective f g n a b e k h =
+    sym (packed-octet f n k (λ j l. a j) h) ∙ ap (λ (w : ℕ). octetOf w k) e ∙ packed-octet g n k (λ j l. b j) h
 
 -- equal sums with equal words were made of equal numbers
 summed-injective : (m n : ℕ) (f : ℕ → ℕ) (k : ℕ) → m < 2 ^ 64 → n < 2 ^ 64 → summed m f k ≡ summed n f k → m ≡ n

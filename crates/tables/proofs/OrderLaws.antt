@@ -34,6 +34,10 @@ rank-word t h j i l e =
     let b : i % 8 ≡ j = omega arith in
     rw (a, b)
 
+-- whether a slot is in use, by a rank that was read
+pub in-use-read : {r rank : ℕ} {b : Bool} → r ≡ rank → ltb r 16 ≡ b → ltb rank 16 ≡ b
+in-use-read e h = ap (λ (x : ℕ). ltb x 16) (sym e) ∙ h
+
 -- words of free slots
 module _ (t : List ℕ) (e : allFree t ≡ true) where
   free-word : (x : ℕ) → x < 2 → getD t x 0 ≡ packed (λ k. 16) 8
@@ -67,10 +71,10 @@ module _ (t : List ℕ) (f : ℕ → ℕ) where
   unfolding reranked
   reranked-out x o = getD-set-other (set t 0 (packed f 8)) 1 x _ 0 (λ q. omega arith) ∙ getD-set-other t 0 x (packed f 8) 0 (λ q. omega arith)
 
-  pub reranked-only : OnlyRanks t (reranked t f)
+  reranked-only : OnlyRanks t (reranked t f)
   reranked-only = record { size = length-reranked; rest = reranked-out }
 
-  pub reranked-if : (b : Bool) → OnlyRanks t (cond b (reranked t f) t)
+  reranked-if : (b : Bool) → OnlyRanks t (cond b (reranked t f) t)
   reranked-if true = reranked-only
   reranked-if false = record { size = refl; rest = λ x o. refl }
 
@@ -87,7 +91,7 @@ module _ (t : List ℕ) (f : ℕ → ℕ) where
     reranked-place b h j l m =
         ap (λ (w : ℕ). octetOf w j) (reranked-word h l) ∙ packed-octet (λ k. f (h * 8 + k)) 8 j (λ k n. omega (arith, b (h * 8 + k) (omega arith))) m
 
-    pub reranked-octet : ((i : ℕ) → i < 16 → f i < 128) → (i : ℕ) → i < 16 → octetOf (getD (reranked t f) (i / 8) 0) (i % 8) ≡ f i
+    reranked-octet : ((i : ℕ) → i < 16 → f i < 128) → (i : ℕ) → i < 16 → octetOf (getD (reranked t f) (i / 8) 0) (i % 8) ≡ f i
     reranked-octet b i l =
         let e : i / 8 * 8 + i % 8 ≡ i = omega arith in
         reranked-place b (i / 8) (i % 8) (omega arith) (omega arith) ∙ ap f e
@@ -127,7 +131,7 @@ module _ (t : List ℕ) (f : ℕ → ℕ) (z : 2 ≤ length t) (b : (i : ℕ) �
           ∙ packed-same _ _ 8 (λ j l. sym (cond-no _ _ (ne-eqb (x * 8 + j) s (λ e. q (omega arith)))))
           ∙ sym (reranked-word t (beside f s v) z x p)
 
-  pub reranked-beside : {out : List ℕ} {word : ℕ} → out ≡ reranked t f → word ≡ packed (beside (octetOf (getD out (s / 8) 0)) (s % 8) v) 8
+  reranked-beside : {out : List ℕ} {word : ℕ} → out ≡ reranked t f → word ≡ packed (beside (octetOf (getD out (s / 8) 0)) (s % 8) v) 8
       → set out (s / 8) word ≡ reranked t (beside f s v)
   reranked-beside o e = rw (e, o) reranked-word-set
 
@@ -142,10 +146,10 @@ module _ (t : List ℕ) (z : 2 ≤ length t) (g : ℕ → ℕ) (b : (r : ℕ) �
       ∙ packed-same _ (λ j. g (rankOf t (8 + j))) 8 (λ j l. ap g (sym (rank-word t 1 j (8 + j) l (omega arith)))) in
       ap (λ (w : ℕ). set (set t 0 first) 1 w) c ∙ ap (λ (w : ℕ). set (set t 0 w) 1 (packed (λ j. g (rankOf t (8 + j))) 8)) a
 
-  pub own-octet : octetOf (getD (set (set t 0 first) 1 second) (s / 8) 0) (s % 8) ≡ g (rankOf t s)
+  own-octet : octetOf (getD (set (set t 0 first) 1 second) (s / 8) 0) (s % 8) ≡ g (rankOf t s)
   own-octet = ap (λ (l : List ℕ). octetOf (getD l (s / 8) 0) (s % 8)) each-is ∙ reranked-octet t _ z (λ i l. b (rankOf t i) (rank-below t i)) s h
 
-  pub own-replaced : (v : ℕ) {word : ℕ} → word ≡ packed (beside (octetOf (getD (set (set t 0 first) 1 second) (s / 8) 0)) (s % 8) v) 8
+  own-replaced : (v : ℕ) {word : ℕ} → word ≡ packed (beside (octetOf (getD (set (set t 0 first) 1 second) (s / 8) 0)) (s % 8) v) 8
       → set (set (set t 0 first) 1 second) (s / 8) word ≡ reranked t (beside (λ i. g (rankOf t i)) s v)
   own-replaced v e = reranked-beside t (λ i. g (rankOf t i)) z (λ i l. b (rankOf t i) (rank-below t i)) s v h each-is e
 
@@ -156,7 +160,7 @@ module _ (t : List ℕ) (s v : ℕ) where
   unfolding rankSet
   set-outside h = sym (cond-no _ _ (le-ltb s 16 h))
 
-  pub rank-set-is : s < 16 → rankSet t s v ≡ reranked t (beside (rankOf t) s v)
+  rank-set-is : s < 16 → rankSet t s v ≡ reranked t (beside (rankOf t) s v)
   unfolding rankSet
   rank-set-is h = cond-yes _ _ (lt-ltb s 16 h)
 
@@ -175,7 +179,7 @@ module _ (t : List ℕ) (s v : ℕ) where
 
 -- ---- a use
 
-pub raised-self : (old : ℕ) → raised old old ≡ old
+raised-self : (old : ℕ) → raised old old ≡ old
 raised-self old = cond-no _ _ (le-ltb old old (omega arith))
 
 raised-rank : (old r : ℕ) → old < 128 → r < 128 → raised old r < 128
@@ -230,11 +234,11 @@ module _ (t : List ℕ) (s : ℕ) where
 
 -- ---- an entry forgotten
 
-pub lowered-self : (old : ℕ) → lowered old old ≡ old
+lowered-self : (old : ℕ) → lowered old old ≡ old
 lowered-self old = cond-no _ _ (and-no _ (le-ltb old old (omega arith)))
 
-pub lowered-rank : (old r : ℕ) → lowered old r ≤ r
-lowered-rank old r = go (ltb old r && ltb r 16)
+pub lowered-most : (old r : ℕ) → lowered old r ≤ r
+lowered-most old r = go (ltb old r && ltb r 16)
   where
     go : (b : Bool) → cond b (r - 1) r ≤ r
     go true = omega arith
@@ -263,12 +267,12 @@ module _ (t : List ℕ) (s : ℕ) where
       forgotten-rank i l =
           rw forgotten-is (reranked-in t (forgottenRank (rankOf t) s) z
           (λ j m. beside-below (λ x. lowered (rankOf t s) (rankOf t x)) s 16 j (omega arith)
-          (omega (arith, lowered-rank (rankOf t s) (rankOf t j), rank-below t j))) i l)
+          (omega (arith, lowered-most (rankOf t s) (rankOf t j), rank-below t j))) i l)
 
       module _ {old first second : ℕ} (o : old ≡ rankOf t s) (p : first ≡ packed (λ j. lowered old (rankIn (getD t 0 0) j)) 8)
           (q : second ≡ packed (λ j. lowered old (rankIn (getD (set t 0 first) 1 0) j)) 8) where
         lowered-each : (r : ℕ) → r < 128 → lowered old r < 128
-        lowered-each r l = omega (arith, lowered-rank old r)
+        lowered-each r l = omega (arith, lowered-most old r)
 
         pub forget-octet : octetOf (getD (set (set t 0 first) 1 second) (s / 8) 0) (s % 8) ≡ old
         forget-octet = own-octet t z (lowered old) lowered-each s h p q ∙ ap (lowered old) (sym o) ∙ lowered-self old

@@ -9,7 +9,6 @@ use native.Mathlib.Omega.{arith}
 use borrow.Author.Tests.{eq-eqb, ne-eqb}
 use lib.Bits.{bitAnd, and-block}
 use lib.Dec.{eqb·zero-suc, eqb·suc-zero, eqb·suc-suc}
-use lib.Pow.{pow-add}
 use Rattle.records.proofs.Booleans.{cond-no}
 use Rattle.tables.specs.Packed.{packed, octetOf, beside}
 
@@ -22,6 +21,8 @@ pub packed-below : (f : ℕ → ℕ) (n : ℕ) → ((k : ℕ) → k < n → f k 
 unfolding packed
 packed-below f zero b = omega arith
 packed-below f (suc n) b = omega (arith, b 0 (omega arith), pow-suc 256 n, packed-below (λ k. f (suc k)) n (λ k l. b (suc k) (omega arith)))
+
+-- ---- word operations, octet by octet
 
 pub packed-sum : (f g : ℕ → ℕ) (n : ℕ) → packed f n + packed g n ≡ packed (λ k. f k + g k) n
 unfolding packed
@@ -51,7 +52,8 @@ packed-and f g (suc n) a b =
 
 -- ---- octets read
 
-pub octet-next : (w k : ℕ) → w / 256 ^ suc k ≡ w / 256 / 256 ^ k
+-- an octet but the first of a number is one of its quotient by 256
+octet-next : (w k : ℕ) → w / 256 ^ suc k ≡ w / 256 / 256 ^ k
 octet-next w k = ap (λ (p : ℕ). w / p) (pow-succ' 256 k) ∙ sym (div-div-eq-div-mul w 256 (256 ^ k))
 
 pub packed-octet : (f : ℕ → ℕ) (n k : ℕ) → ((j : ℕ) → j < n → f j < 256) → k < n → octetOf (packed f n) k ≡ f k
@@ -73,6 +75,7 @@ octets-packed w (suc n) h =
 
 -- ---- one octet replaced
 
+-- a bound of all values, the new one too
 pub beside-below : (f : ℕ → ℕ) (i v k : ℕ) {most : ℕ} → v < most → f k < most → beside f i v k < most
 beside-below f i v k a b = by-cases (ℕ-discrete k i) (λ q. rw (eq-eqb k i q) a) (λ q. rw (ne-eqb k i q) b)
 

@@ -10,7 +10,7 @@ use lib.Bits.{bitAnd, and-mask, and-high}
 use lib.Pow.{pow-add, shl-exact}
 use Rattle.records.proofs.Booleans.{cond-yes, cond-no}
 use Rattle.tables.proofs.PackedLaws.{packed-same, packed-below, packed-sum, packed-times, packed-and, octets-packed, packed-beside, beside-below}
-use Rattle.tables.specs.Order.{raised, lowered, rankIn}
+use Rattle.tables.specs.Order.{raised, rankIn}
 use Rattle.tables.specs.Packed.{packed, octetOf, beside}
 
 -- ---- the low seven bits
@@ -28,6 +28,7 @@ ranks-most w = omega arith
 
 -- ---- the ranks below one raised
 
+-- a number in each octet
 same-octets : (c : ℕ) → 0x0101010101010101 * c ≡ packed (λ k. c) 8
 unfolding packed
 same-octets c = omega arith
@@ -93,7 +94,7 @@ module _ (w place : ℕ) (wide : w < 2 ^ 64) (h : place < 8) {old v : ℕ} (o : 
   shifted-octet : (x : ℕ) → x < 256 → x * 2 ^ (8 * place) % 2 ^ 64 ≡ x * 256 ^ place
   shifted-octet x l = shl-exact 8 (8 * place) 64 l (omega arith) ∙ ap (λ (p : ℕ). x * p) (octet-power place)
 
-  -- the octet's part of the word, out and in
+  -- what the old octet adds to the word is taken off, and what the new one adds is put on
   pub record Replaced (off on : ℕ) : Type 0 where
     pub within : off ≤ w
     pub word : w - off + on ≡ packed (beside (octetOf w) place v) 8

@@ -34,7 +34,7 @@ pub fn rank_at(t: &[u64], slot: usize) -> u64
     rank_in(t[slot / 8], slot % 8)
 }
 
-// Whether no slot is in use, told by the two words.
+// Whether both words of ranks are those of free slots; no slot is then in use.
 pub fn no_entries(t: &[u64]) -> bool
     requires { ⌜ 2 ≤ length (now t) ⌝ }
     ensures { λ r. ⌜ r ≡ allFree (now (t .entry)) ⌝ }

@@ -1,5 +1,5 @@
 -- `freed_word` meets its contract. The invariant: the octets from k on are packed.
-use Prim.Native.Nat.{_+_, _-_}
+use Prim.Native.Nat.{_+_}
 use native.Mathlib.Omega.{arith}
 use borrow.Author.Needs.{needs}
 use Rattle.tables.proofs.PackedLaws.{PackedFrom, packed-last, packed-next, packed-fits, packed-all}

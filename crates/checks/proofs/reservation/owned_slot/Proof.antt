@@ -1,11 +1,11 @@
 -- `owned_slot` meets its contract.
-use mathlib.Core.Path.{refl, sym, ap, _∙_}
+use mathlib.Core.Path.{refl, sym, _∙_}
 use mathlib.Core.Bool.{_&&_}
 use mathlib.Core.Logic.{⊎-elim}
-use Prim.Native.Nat.{ℕ, _-_}
-use lib.Dec.{ltb}
+use Prim.Native.Nat.{_-_}
 use Rattle.records.proofs.Booleans.{and-yes, and-no}
 use Rattle.records.proofs.SearchLaws.{Reached, reached-first, reached-end, reached-hit, reached-next}
+use Rattle.tables.proofs.OrderLaws.{in-use-read}
 use Rattle.tables.specs.Named.{hasKey}
 use Rattle.tables.specs.Order.{rankOf, inUse}
 use Rattle.checks.specs.Reservation.{ownedBy, ownedSlot}
@@ -28,8 +28,8 @@ loop-again c =
     let h = c .before in
     let k = sym (h .has-key .ensures) in
     reached-next (h .before .before .loop .inv) (omega arith) refl
-    (⊎-elim (λ w. and-yes (k ∙ w .0 .taken) (and-yes (ap (λ (r : ℕ). ltb r 16) (sym (w .1 .ensures)) ∙ w .2 .taken) (w .4 .left)))
-    (⊎-elim (λ w. and-yes (k ∙ w .0 .taken) (and-no _ (ap (λ (r : ℕ). ltb r 16) (sym (w .1 .ensures)) ∙ w .2 .left))) (λ w. and-no _ (k ∙ w .left))) (c .if2 .came))
+    (⊎-elim (λ w. and-yes (k ∙ w .0 .taken) (and-yes (in-use-read (w .1 .ensures) (w .2 .taken)) (w .4 .left)))
+    (⊎-elim (λ w. and-yes (k ∙ w .0 .taken) (and-no _ (in-use-read (w .1 .ensures) (w .2 .left)))) (λ w. and-no _ (k ∙ w .left))) (c .if2 .came))
 
 returns : tie.Need-returns Inv-loop μ-loop
 unfolding ownedSlot
@@ -42,7 +42,7 @@ returns-2 c =
     let k = d .before .before in
     let h = k .before in
     reached-hit (h .before .before .loop .inv) (omega arith) refl
-    (and-yes (sym (h .has-key .ensures) ∙ k .if2 .taken) (and-yes (ap (λ (r : ℕ). ltb r 16) (sym (d .before .rank-at .ensures)) ∙ d .if3 .taken) (c .if4 .taken)))
+    (and-yes (sym (h .has-key .ensures) ∙ k .if2 .taken) (and-yes (in-use-read (d .before .rank-at .ensures) (d .if3 .taken)) (c .if4 .taken)))
 
 pub owned-slot-spec : {M : Type 1} → statement M
 owned-slot-spec =

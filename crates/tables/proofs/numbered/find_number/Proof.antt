@@ -1,11 +1,11 @@
 -- `find_number` meets its contract. The invariant: the search has reached slot i.
-use mathlib.Core.Path.{refl, sym, ap, _∙_}
+use mathlib.Core.Path.{refl}
 use mathlib.Core.Bool.{_&&_}
 use mathlib.Core.Logic.{⊎-elim}
-use Prim.Native.Nat.{ℕ, _-_}
+use Prim.Native.Nat.{_-_}
 use borrow.Author.Needs.{needs}
 use borrow.Author.Tests.{eq-eqb, ne-eqb}
-use lib.Dec.{ltb}
+use Rattle.tables.proofs.OrderLaws.{in-use-read}
 use Rattle.tables.specs.Order.{rankOf, inUse}
 use Rattle.tables.specs.Numbered.{hasNumber}
 use Rattle.tables.specs.Place.{found}
@@ -27,7 +27,7 @@ loop-holds c = reached-first
 loop-again : tie.Need-loop-again Inv-loop μ-loop
 loop-again c =
     reached-next (c .before .before .before .loop .inv) (omega arith) refl
-    (⊎-elim (λ w. and-yes (eq-eqb _ _ (w .0 .taken)) (ap (λ (r : ℕ). ltb r 16) (sym (w .1 .ensures)) ∙ w .2 .left)) (λ w. and-no _ (ne-eqb _ _ (w .left))) (c .if2 .came))
+    (⊎-elim (λ w. and-yes (eq-eqb _ _ (w .0 .taken)) (in-use-read (w .1 .ensures) (w .2 .left))) (λ w. and-no _ (ne-eqb _ _ (w .left))) (c .if2 .came))
 
 returns : tie.Need-returns Inv-loop μ-loop
 unfolding found
@@ -37,7 +37,7 @@ returns-2 : tie.Need-returns-2 Inv-loop μ-loop
 unfolding found
 returns-2 c =
     reached-hit (c .before .before .before .before .before .loop .inv) (omega arith) refl
-    (and-yes (eq-eqb _ _ (c .before .before .if2 .taken)) (ap (λ (r : ℕ). ltb r 16) (sym (c .before .rank-at .ensures)) ∙ c .if3 .taken))
+    (and-yes (eq-eqb _ _ (c .before .before .if2 .taken)) (in-use-read (c .before .rank-at .ensures) (c .if3 .taken)))
 
 pub find-number-spec : {M : Type 1} → statement M
 find-number-spec =

@@ -17,7 +17,8 @@ with-octet-requires c κs =
     let q = c .before in
     let p = q .before .before in
     let r = p .before .before .before in
-    let own = forget-octet _ _ (r .before .before .if1 .left) (omega arith) (omega arith) (r .rank-at .ensures) (p .lowered-word .ensures) (q .lowered-word2 .ensures) in
+    let own = forget-octet _ _ (r .before .before .if1 .left) (omega arith) (omega arith) (r .rank-at .ensures) (p .lowered-word .ensures)
+    (q .lowered-word2 .ensures) in
     (omega arith, own, omega arith)
 
 returns-3 : tie.Need-returns-3

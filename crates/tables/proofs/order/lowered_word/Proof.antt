@@ -1,9 +1,8 @@
 -- `lowered_word` meets its contract. The invariant: the octets from k on are packed.
-use mathlib.Core.Path.{_≡_, ap, _∙_}
-use Prim.Native.Nat.{ℕ, _<_}
+use mathlib.Core.Path.{ap, _∙_}
 use native.Mathlib.Omega.{arith}
 use borrow.Author.Needs.{needs}
-use Rattle.tables.proofs.OrderLaws.{lowered-rank}
+use Rattle.tables.proofs.OrderLaws.{lowered-most}
 use Rattle.tables.proofs.PackedLaws.{PackedFrom, packed-last, packed-next, packed-fits, packed-all}
 use Rattle.tables.specs.Order.{lowered, rankIn}
 use Rattle.tables.proofs.order.lowered_word.Statement.{statement}
@@ -20,7 +19,7 @@ fits c =
     let l = c .before .before .before in
     let a = l .before .args in
     let e = c .lowered .ensures ∙ ap (lowered (a .old)) (c .before .rank-in .ensures) in
-    let f = packed-fits _ (l .loop .inv) (omega arith) e (λ j m. omega (arith, lowered-rank (a .old) (rankIn (a .word) j))) in
+    let f = packed-fits _ (l .loop .inv) (omega arith) e (λ j m. omega (arith, lowered-most (a .old) (rankIn (a .word) j))) in
     omega arith
 
 loop-again : tie.Need-loop-again Inv-loop μ-loop
