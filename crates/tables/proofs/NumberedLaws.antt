@@ -13,4 +13,4 @@ use Rattle.tables.specs.Numbered.{hasNumber, numberStored}
 pub number-again : (t : List ℕ) (number i : ℕ) → i < 16 → hasNumber t number i ≡ true → numberStored t i number ≡ t
 unfolding wordSet
 number-again t number i h e =
-    cond-yes _ _ (lt-ltb i 16 h) ∙ ap (λ (v : ℕ). set t (16 + i) v) (sym (eqb-true (getD t (16 + i) 0) number e)) ∙ set-getD t (16 + i) 0
+    cond-yes _ _ (lt-ltb i 16 h) ∙ ap (λ (v : ℕ). set t (2 + i) v) (sym (eqb-true (getD t (2 + i) 0) number e)) ∙ set-getD t (2 + i) 0

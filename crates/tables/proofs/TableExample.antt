@@ -62,13 +62,13 @@ unequal q = let e : _≡_ {A = ℕ} 98 97 = ap latestName q in omega arith
 
 pub told-apart :
     (f : List (List ℕ × ℕ)) × All (Legal latest) f × (length f ≤ 16)
-    × (answersAfter (byName oneLaws 0) (λ i. i) (λ w i. i) (λ known i. known) latest (λ j g. g) (noEntries 192) (length-none 192)
-    (rank-none 192 (omega arith)) one f
-    ≢ answersAfter (byName oneLaws 0) (λ i. i) (λ w i. i) (λ known i. known) latest (λ j g. g) (noEntries 192) (length-none 192)
-    (rank-none 192 (omega arith)) other f)
+    × (answersAfter (byName oneLaws 0) (λ i. i) (λ w i. i) (λ known i. known) latest (λ j g. g) (noEntries 178) (length-none 178)
+    (rank-none 178 (omega arith)) one f
+    ≢ answersAfter (byName oneLaws 0) (λ i. i) (λ w i. i) (λ known i. known) latest (λ j g. g) (noEntries 178) (length-none 178)
+    (rank-none 178 (omega arith)) other f)
 told-apart =
-    unequal-lists-told-apart (byName oneLaws 0) (λ i. i) (λ w i. i) (λ known i. known) latest (λ j g. g) (noEntries 192) (length-none 192)
-    (rank-none 192 (omega arith))
+    unequal-lists-told-apart (byName oneLaws 0) (λ i. i) (λ w i. i) (λ known i. known) latest (λ j g. g) (noEntries 178) (length-none 178)
+    (rank-none 178 (omega arith))
     one other
     ((name 97 (omega arith), tt), ((name 98 (omega arith), tt), tt))
     ((name 98 (omega arith), tt), ((name 97 (omega arith), tt), tt))

@@ -123,11 +123,11 @@ threeLaws = bothLaws twoLaws oneLaws
 pub record KeyColumnLaws {K : Type 0} (keys : KeyColumns K) : Type 1 where
   pub Legal : K → Type 0
   pub keyAt : List ℕ → ℕ → K
-  pub behind : 16 ≤ keys .values
+  pub behind : 2 ≤ keys .values
   pub matched : (t : List ℕ) (k : K) (i : ℕ) → keys .values ≤ length t → Legal k → i < 16 → (keys .matches t k i ≡ true) ↔ (k ≡ keyAt t i)
-  pub reads : (t u : List ℕ) (i : ℕ) → ((x : ℕ) → 16 ≤ x → x < keys .values → getD u x 0 ≡ getD t x 0) → keyAt u i ≡ keyAt t i
+  pub reads : (t u : List ℕ) (i : ℕ) → ((x : ℕ) → 2 ≤ x → x < keys .values → getD u x 0 ≡ getD t x 0) → keyAt u i ≡ keyAt t i
   pub stored-length : (t : List ℕ) (s : ℕ) (k : K) → s < 16 → length (keys .stored t s k) ≡ length t
-  pub stored-ranks : (t : List ℕ) (s : ℕ) (k : K) → s < 16 → (x : ℕ) → x < 16 → getD (keys .stored t s k) x 0 ≡ getD t x 0
+  pub stored-ranks : (t : List ℕ) (s : ℕ) (k : K) → s < 16 → (x : ℕ) → x < 2 → getD (keys .stored t s k) x 0 ≡ getD t x 0
   pub stored-values : (t : List ℕ) (s : ℕ) (k : K) → s < 16 → (x : ℕ) → keys .values ≤ x → getD (keys .stored t s k) x 0 ≡ getD t x 0
   pub stored-here : (t : List ℕ) (s : ℕ) (k : K) → keys .values ≤ length t → Legal k → s < 16 → keyAt (keys .stored t s k) s ≡ k
   pub stored-other : (t : List ℕ) (s : ℕ) (k : K) → s < 16 → (i : ℕ) → i ≢ s → keyAt (keys .stored t s k) i ≡ keyAt t i
@@ -155,7 +155,7 @@ module _ {K W : Type 0} (keys : KeyColumns K) (L : KeyColumnLaws keys) (encoding
     below : (x : ℕ) → x < keys .values → getD withValue x 0 ≡ getD withUse x 0
     below x l = values-out s h x (encoding .words w) withUse (keys .values) (λ j q. omega arith)
 
-    pub in-key : (x : ℕ) → 16 ≤ x → x < keys .values → getD withValue x 0 ≡ getD withKey x 0
+    pub in-key : (x : ℕ) → 2 ≤ x → x < keys .values → getD withValue x 0 ≡ getD withKey x 0
     in-key x l g = below x g ∙ used-only withKey s .rest x (omega arith)
 
     pub value-rank : (i : ℕ) → i < 16 → rankOf withValue i ≡ usedRank (rankOf t) s i
@@ -286,122 +286,122 @@ abbrev pub numberedLaws : KeyColumnLaws numbered
 numberedLaws =
     record {
       Legal = λ k. Unit {0};
-      keyAt = λ t i. wordOf t 16 i;
+      keyAt = λ t i. wordOf t 2 i;
       behind = omega arith;
       matched = λ t k i z g h. (
-        λ e. sym (word-at t i h 16 ∙ eqb-true (getD t (16 + i) 0) k e),
-        λ e. eq-eqb (getD t (16 + i) 0) k (sym (e ∙ word-at t i h 16)),
+        λ e. sym (word-at t i h 2 ∙ eqb-true (getD t (2 + i) 0) k e),
+        λ e. eq-eqb (getD t (2 + i) 0) k (sym (e ∙ word-at t i h 2)),
       );
-      reads = λ t u i e. word-same t u 16 i (λ h. e (16 + i) (omega arith) (omega arith));
-      stored-length = λ t s k h. length-word t s h 16 k;
-      stored-ranks = λ t s k h x o. word-out t s h 16 k x (λ q. omega arith);
-      stored-values = λ t s k h x o. word-out t s h 16 k x (λ q. omega arith);
-      stored-here = λ t s k z g h. word-at (numberStored t s k) s h 16 ∙ word-in t s h 16 k (omega arith);
-      stored-other = λ t s k h i n. word-same t (numberStored t s k) 16 i (λ l. word-out t s h 16 k (16 + i) (λ q. n (omega arith)));
+      reads = λ t u i e. word-same t u 2 i (λ h. e (2 + i) (omega arith) (omega arith));
+      stored-length = λ t s k h. length-word t s h 2 k;
+      stored-ranks = λ t s k h x o. word-out t s h 2 k x (λ q. omega arith);
+      stored-values = λ t s k h x o. word-out t s h 2 k x (λ q. omega arith);
+      stored-here = λ t s k z g h. word-at (numberStored t s k) s h 2 ∙ word-in t s h 2 k (omega arith);
+      stored-other = λ t s k h i n. word-same t (numberStored t s k) 2 i (λ l. word-out t s h 2 k (2 + i) (λ q. n (omega arith)));
     }
 
 -- ---- by name
 
 -- a word of a slot's name
-abbrev pub nameAt : List ℕ → ℕ → ℕ → ℕ
-nameAt t i k = cond (ltb i 16) (getD t (48 + i * 8 + k) 0) 0
+abbrev pub nameAt : ℕ → List ℕ → ℕ → ℕ → ℕ
+nameAt start t i k = cond (ltb i 16) (getD t (start + 32 + i * 8 + k) 0) 0
 
 -- the key of a slot
-abbrev pub keyAt : List ℕ → ℕ → List ℕ
-keyAt t i = wordOf t 16 i ∷ wordOf t 32 i ∷ tabulate (nameAt t i) 8
+abbrev pub keyAt : ℕ → List ℕ → ℕ → List ℕ
+keyAt start t i = wordOf t start i ∷ wordOf t (start + 16) i ∷ tabulate (nameAt start t i) 8
 
 -- it is the ten words that the slot's columns have
-module _ (t k : List ℕ) (i : ℕ) (h : i < 16) where
-  name-at : (j : ℕ) → nameAt t i j ≡ getD t (48 + i * 8 + j) 0
+module _ (start : ℕ) (t k : List ℕ) (i : ℕ) (h : i < 16) where
+  name-at : (j : ℕ) → nameAt start t i j ≡ getD t (start + 32 + i * 8 + j) 0
   name-at j = cond-yes _ _ (lt-ltb i 16 h)
 
-  key-is : length k ≡ 10 → getD t (16 + i) 0 ≡ getD k 0 0 → getD t (32 + i) 0 ≡ getD k 1 0
-      → ((j : ℕ) → j < 8 → getD t (48 + i * 8 + j) 0 ≡ getD k (j + 2) 0) → keyAt t i ≡ k
-  key-is g a b w = ext-getD 0 (keyAt t i) k (omega (arith, length-tabulate (nameAt t i) 8)) each
+  key-is : length k ≡ 10 → getD t (start + i) 0 ≡ getD k 0 0 → getD t (start + 16 + i) 0 ≡ getD k 1 0
+      → ((j : ℕ) → j < 8 → getD t (start + 32 + i * 8 + j) 0 ≡ getD k (j + 2) 0) → keyAt start t i ≡ k
+  key-is g a b w = ext-getD 0 (keyAt start t i) k (omega (arith, length-tabulate (nameAt start t i) 8)) each
     where
-      each : (j : ℕ) → j < length (keyAt t i) → getD (keyAt t i) j 0 ≡ getD k j 0
-      each zero l = word-at t i h 16 ∙ a
-      each (suc zero) l = word-at t i h 32 ∙ b
+      each : (j : ℕ) → j < length (keyAt start t i) → getD (keyAt start t i) j 0 ≡ getD k j 0
+      each zero l = word-at t i h start ∙ a
+      each (suc zero) l = word-at t i h (start + 16) ∙ b
       each (suc (suc j)) l =
-          let y : j < 8 = omega (arith, length-tabulate (nameAt t i) 8) in
+          let y : j < 8 = omega (arith, length-tabulate (nameAt start t i) 8) in
           let e : j + 2 ≡ suc (suc j) = omega arith in
-          tabulate-at (nameAt t i) 8 j 0 y ∙ name-at j ∙ w j y ∙ ap (λ (x : ℕ). getD k x 0) e
+          tabulate-at (nameAt start t i) 8 j 0 y ∙ name-at j ∙ w j y ∙ ap (λ (x : ℕ). getD k x 0) e
 
-  pub key-matched : length k ≡ 10 → (hasKey t k i ≡ true) ↔ (k ≡ keyAt t i)
+  pub key-matched : length k ≡ 10 → (hasKey start t k i ≡ true) ↔ (k ≡ keyAt start t i)
   key-matched g = (
-    λ e. let m = has-key t k i e in sym (key-is g (m .sum) (m .size) (m .word)),
+    λ e. let m = has-key start t k i e in sym (key-is g (m .sum) (m .size) (m .word)),
     λ e.
-        let at : (j : ℕ) → getD (keyAt t i) j 0 ≡ getD k j 0 = λ j. ap (λ (l : List ℕ). getD l j 0) (sym e) in
-        sym (name-decides t k i h (sym (word-at t i h 16) ∙ at 0) (sym (word-at t i h 32) ∙ at 1) (sym (agree-all _ _ 8 (λ j l.
+        let at : (j : ℕ) → getD (keyAt start t i) j 0 ≡ getD k j 0 = λ j. ap (λ (l : List ℕ). getD l j 0) (sym e) in
+        sym (name-decides start t k i h (sym (word-at t i h start) ∙ at 0) (sym (word-at t i h (start + 16)) ∙ at 1) (sym (agree-all _ _ 8 (λ j l.
         let q : suc (suc j) ≡ j + 2 = omega arith in
-        sym (tabulate-at (nameAt t i) 8 j 0 l ∙ name-at j) ∙ at (suc (suc j)) ∙ ap (λ (x : ℕ). getD k x 0) q)))),
+        sym (tabulate-at (nameAt start t i) 8 j 0 l ∙ name-at j) ∙ at (suc (suc j)) ∙ ap (λ (x : ℕ). getD k x 0) q)))),
   )
 
 -- a key is the same where its words are
-pub key-same : (t u : List ℕ) (i : ℕ) → (i < 16 → getD u (16 + i) 0 ≡ getD t (16 + i) 0) → (i < 16 → getD u (32 + i) 0 ≡ getD t (32 + i) 0)
-    → ((j : ℕ) → i < 16 → j < 8 → getD u (48 + i * 8 + j) 0 ≡ getD t (48 + i * 8 + j) 0) → keyAt u i ≡ keyAt t i
-key-same t u i a b w =
-    let p = word-same t u 16 i a in
-    let q = word-same t u 32 i b in
-    let r = tabulate-same (nameAt u i) (nameAt t i) 8 (λ j l. slot-same i _ _ 0 (λ h. w j h l)) in
+pub key-same : (start : ℕ) (t u : List ℕ) (i : ℕ) → (i < 16 → getD u (start + i) 0 ≡ getD t (start + i) 0) → (i < 16 → getD u (start + 16 + i) 0 ≡ getD t (start + 16 + i) 0)
+    → ((j : ℕ) → i < 16 → j < 8 → getD u (start + 32 + i * 8 + j) 0 ≡ getD t (start + 32 + i * 8 + j) 0) → keyAt start u i ≡ keyAt start t i
+key-same start t u i a b w =
+    let p = word-same t u start i a in
+    let q = word-same t u (start + 16) i b in
+    let r = tabulate-same (nameAt start u i) (nameAt start t i) 8 (λ j l. slot-same i _ _ 0 (λ h. w j h l)) in
     λ x. p x ∷ q x ∷ r x
 
 -- a key stored
-module _ (t : List ℕ) (s : ℕ) (k : List ℕ) (h : s < 16) where
+module _ (start : ℕ) (t : List ℕ) (s : ℕ) (k : List ℕ) (h : s < 16) where
   abbrev numbersSet : List ℕ
-  numbersSet = set (set t (16 + s) (getD k 0 0)) (32 + s) (getD k 1 0)
+  numbersSet = set (set t (start + s) (getD k 0 0)) (start + 16 + s) (getD k 1 0)
 
   numbers-length : length numbersSet ≡ length t
   numbers-length = simp length-set refl
 
-  stored-is : keyStored t s k ≡ overwritten numbersSet (48 + s * 8) (λ j. getD k (j + 2) 0) 8
+  stored-is : keyStored start t s k ≡ overwritten numbersSet (start + 32 + s * 8) (λ j. getD k (j + 2) 0) 8
   unfolding keyStored
   stored-is = cond-yes _ _ (lt-ltb s 16 h)
 
-  pub key-length : length (keyStored t s k) ≡ length t
-  key-length = ap length stored-is ∙ length-overwritten numbersSet (λ j. getD k (j + 2) 0) (48 + s * 8) 8 ∙ numbers-length
+  pub key-length : length (keyStored start t s k) ≡ length t
+  key-length = ap length stored-is ∙ length-overwritten numbersSet (λ j. getD k (j + 2) 0) (start + 32 + s * 8) 8 ∙ numbers-length
 
-  numbers-out : (x : ℕ) → x ≢ 16 + s → x ≢ 32 + s → getD numbersSet x 0 ≡ getD t x 0
-  numbers-out x a b = getD-set-other (set t (16 + s) (getD k 0 0)) (32 + s) x (getD k 1 0) 0 b ∙ getD-set-other t (16 + s) x (getD k 0 0) 0 a
+  numbers-out : (x : ℕ) → x ≢ start + s → x ≢ start + 16 + s → getD numbersSet x 0 ≡ getD t x 0
+  numbers-out x a b = getD-set-other (set t (start + s) (getD k 0 0)) (start + 16 + s) x (getD k 1 0) 0 b ∙ getD-set-other t (start + s) x (getD k 0 0) 0 a
 
-  name-out : (x : ℕ) → ((j : ℕ) → j < 8 → x ≢ 48 + s * 8 + j) → getD (keyStored t s k) x 0 ≡ getD numbersSet x 0
-  name-out x o = rw stored-is (overwritten-out numbersSet (48 + s * 8) (λ j. getD k (j + 2) 0) 8 x o)
+  name-out : (x : ℕ) → ((j : ℕ) → j < 8 → x ≢ start + 32 + s * 8 + j) → getD (keyStored start t s k) x 0 ≡ getD numbersSet x 0
+  name-out x o = rw stored-is (overwritten-out numbersSet (start + 32 + s * 8) (λ j. getD k (j + 2) 0) 8 x o)
 
-  pub key-out : (x : ℕ) → x ≢ 16 + s → x ≢ 32 + s → ((j : ℕ) → j < 8 → x ≢ 48 + s * 8 + j) → getD (keyStored t s k) x 0 ≡ getD t x 0
+  pub key-out : (x : ℕ) → x ≢ start + s → x ≢ start + 16 + s → ((j : ℕ) → j < 8 → x ≢ start + 32 + s * 8 + j) → getD (keyStored start t s k) x 0 ≡ getD t x 0
   key-out x a b o = name-out x o ∙ numbers-out x a b
 
-  pub key-here : 176 ≤ length t → length k ≡ 10 → keyAt (keyStored t s k) s ≡ k
+  pub key-here : start + 160 ≤ length t → length k ≡ 10 → keyAt start (keyStored start t s k) s ≡ k
   key-here z g =
-      key-is (keyStored t s k) k s h g
-      (name-out (16 + s) (λ j l q. omega arith)
-      ∙ getD-set-other (set t (16 + s) (getD k 0 0)) (32 + s) (16 + s) (getD k 1 0) 0 (λ q. omega arith)
-      ∙ getD-set-same t (16 + s) (getD k 0 0) 0 (omega arith))
-      (name-out (32 + s) (λ j l q. omega arith)
-      ∙ getD-set-same (set t (16 + s) (getD k 0 0)) (32 + s) (getD k 1 0) 0 (simp length-set (omega arith)))
-      (λ j l. rw stored-is (overwritten-in numbersSet (48 + s * 8) (λ j. getD k (j + 2) 0) 8 j l (omega (arith, numbers-length))))
+      key-is start (keyStored start t s k) k s h g
+      (name-out (start + s) (λ j l q. omega arith)
+      ∙ getD-set-other (set t (start + s) (getD k 0 0)) (start + 16 + s) (start + s) (getD k 1 0) 0 (λ q. omega arith)
+      ∙ getD-set-same t (start + s) (getD k 0 0) 0 (omega arith))
+      (name-out (start + 16 + s) (λ j l q. omega arith)
+      ∙ getD-set-same (set t (start + s) (getD k 0 0)) (start + 16 + s) (getD k 1 0) 0 (simp length-set (omega arith)))
+      (λ j l. rw stored-is (overwritten-in numbersSet (start + 32 + s * 8) (λ j. getD k (j + 2) 0) 8 j l (omega (arith, numbers-length))))
 
-  pub key-other : (i : ℕ) → i ≢ s → keyAt (keyStored t s k) i ≡ keyAt t i
+  pub key-other : (i : ℕ) → i ≢ s → keyAt start (keyStored start t s k) i ≡ keyAt start t i
   key-other i n =
-      key-same t (keyStored t s k) i
-      (λ l. key-out (16 + i) (λ q. n (omega arith)) (λ q. omega arith) (λ j m q. omega arith))
-      (λ l. key-out (32 + i) (λ q. omega arith) (λ q. n (omega arith)) (λ j m q. omega arith))
-      (λ j l m. key-out (48 + i * 8 + j) (λ q. omega arith) (λ q. omega arith) (λ x y q. n (omega arith)))
+      key-same start t (keyStored start t s k) i
+      (λ l. key-out (start + i) (λ q. n (omega arith)) (λ q. omega arith) (λ j m q. omega arith))
+      (λ l. key-out (start + 16 + i) (λ q. omega arith) (λ q. n (omega arith)) (λ j m q. omega arith))
+      (λ j l m. key-out (start + 32 + i * 8 + j) (λ q. omega arith) (λ q. omega arith) (λ x y q. n (omega arith)))
 
 abbrev pub namedLaws : KeyColumnLaws named
 namedLaws =
     record {
       Legal = λ k. length k ≡ 10;
-      keyAt = keyAt;
+      keyAt = keyAt 2;
       behind = omega arith;
-      matched = λ t k i z g h. key-matched t k i h g;
+      matched = λ t k i z g h. key-matched 2 t k i h g;
       reads = λ t u i e.
-          key-same t u i (λ h. e (16 + i) (omega arith) (omega arith)) (λ h. e (32 + i) (omega arith) (omega arith))
-          (λ j h l. e (48 + i * 8 + j) (omega arith) (omega arith));
-      stored-length = key-length;
-      stored-ranks = λ t s k h x o. key-out t s k h x (λ q. omega arith) (λ q. omega arith) (λ j l q. omega arith);
-      stored-values = λ t s k h x o. key-out t s k h x (λ q. omega arith) (λ q. omega arith) (λ j l q. omega arith);
-      stored-here = λ t s k z g h. key-here t s k h z g;
-      stored-other = λ t s k h i n. key-other t s k h i n;
+          key-same 2 t u i (λ h. e (2 + i) (omega arith) (omega arith)) (λ h. e (18 + i) (omega arith) (omega arith))
+          (λ j h l. e (34 + i * 8 + j) (omega arith) (omega arith));
+      stored-length = key-length 2;
+      stored-ranks = λ t s k h x o. key-out 2 t s k h x (λ q. omega arith) (λ q. omega arith) (λ j l q. omega arith);
+      stored-values = λ t s k h x o. key-out 2 t s k h x (λ q. omega arith) (λ q. omega arith) (λ j l q. omega arith);
+      stored-here = λ t s k z g h. key-here 2 t s k h z g;
+      stored-other = λ t s k h i n. key-other 2 t s k h i n;
     }
 
 -- ---- the two kinds

@@ -11,14 +11,15 @@ use crate::order::use_slot;
 use crate::place::Place;
 use records::search::Found;
 
-// Where the columns begin.
-const SUMS: usize = 16;
+// Where the keys of a table begin, and behind them the values.
+pub const KEYS: usize = 2;
 
-const LENGTHS: usize = 32;
+pub const VALUES: usize = 162;
 
-const NAMES: usize = 48;
+// Where lengths and names stand behind the sums.
+const LENGTHS: usize = 16;
 
-pub const VALUES: usize = 176;
+const NAMES: usize = 32;
 
 // Whether the eight words from a start on are those of a key's name.
 fn has_name(t: &[u64], start: usize, key: &[u64; 10]) -> bool
@@ -37,26 +38,26 @@ fn has_name(t: &[u64], start: usize, key: &[u64; 10]) -> bool
     }
 }
 
-// Whether a slot has this key; a slot of 16 or more has none.
-pub fn has_key(t: &[u64], slot: usize, key: &[u64; 10]) -> bool
-    requires { ⌜ 176 ≤ length (now t) ⌝ }
-    ensures { λ r. ⌜ r ≡ hasKey (now (t .entry)) (now (key .entry)) slot ⌝ }
+// Whether a slot has this key, in key columns from a start on; a slot of 16 or more has none.
+pub fn has_key(t: &[u64], start: usize, slot: usize, key: &[u64; 10]) -> bool
+    requires { ⌜ start + 160 ≤ length (now t) ⌝ }
+    ensures { λ r. ⌜ r ≡ hasKey start (now (t .entry)) (now (key .entry)) slot ⌝ }
 {
     if slot >= 16 {
         return false;
     }
-    if t[SUMS + slot] != key[0] {
+    if t[start + slot] != key[0] {
         return false;
     }
-    if t[LENGTHS + slot] != key[1] {
+    if t[start + LENGTHS + slot] != key[1] {
         return false;
     }
-    has_name(t, NAMES + slot * 8, key)
+    has_name(t, start + NAMES + slot * 8, key)
 }
 
 // The first slot in use that has this key.
 pub fn find_key(t: &[u64], key: &[u64; 10]) -> Found
-    requires { ⌜ 176 ≤ length (now t) ⌝ }
+    requires { ⌜ 162 ≤ length (now t) ⌝ }
     ensures { λ r. ⌜ r ≡ found named (now (t .entry)) (now (key .entry)) ⌝ }
 {
     let mut i: usize = 0;
@@ -64,7 +65,7 @@ pub fn find_key(t: &[u64], key: &[u64; 10]) -> Found
         if i >= 16 {
             break Found::Nothing;
         }
-        if has_key(t, i, key) && rank_at(t, i) < 16 {
+        if has_key(t, KEYS, i, key) && rank_at(t, i) < 16 {
             break Found::At(i);
         }
         i += 1;
@@ -84,21 +85,21 @@ fn store_name(t: &mut [u64], start: usize, key: &[u64; 10])
 }
 
 // Stores a key in a slot; a slot of 16 or more changes nothing.
-pub fn store_key(t: &mut [u64], slot: usize, key: &[u64; 10])
-    requires { ⌜ 176 ≤ length (now t) ⌝ }
-    ensures { λ _. ⌜ now (t .exit) ≡ keyStored (now (t .entry)) slot (now (key .entry)) ⌝ }
+pub fn store_key(t: &mut [u64], start: usize, slot: usize, key: &[u64; 10])
+    requires { ⌜ start + 160 ≤ length (now t) ⌝ }
+    ensures { λ _. ⌜ now (t .exit) ≡ keyStored start (now (t .entry)) slot (now (key .entry)) ⌝ }
 {
     if slot >= 16 {
         return;
     }
-    t[SUMS + slot] = key[0];
-    t[LENGTHS + slot] = key[1];
-    store_name(t, NAMES + slot * 8, key);
+    t[start + slot] = key[0];
+    t[start + LENGTHS + slot] = key[1];
+    store_name(t, start + NAMES + slot * 8, key);
 }
 
 // A frame of a key: uses its slot, and for a new key the slot that it takes, where the key is then stored.
 pub fn enter_key(t: &mut [u64], key: &[u64; 10]) -> Place
-    requires { ⌜ 176 ≤ length (now t) ⌝ }
+    requires { ⌜ 162 ≤ length (now t) ⌝ }
     ensures { λ r. ⌜ record { table = now (t .exit); place = r } ≡ entered named (now (t .entry)) (now (key .entry)) ⌝ }
 {
     match find_key(t, key) {
@@ -111,7 +112,7 @@ pub fn enter_key(t: &mut [u64], key: &[u64; 10]) -> Place
         }
         Found::Nothing => {
             let slot = new_slot(t);
-            store_key(t, slot, key);
+            store_key(t, KEYS, slot, key);
             use_slot(t, slot);
             Place {
                 slot: slot,

@@ -12,13 +12,13 @@ use crate::place::Place;
 use records::search::Found;
 
 // Where the columns begin.
-const NUMBERS: usize = 16;
+const NUMBERS: usize = 2;
 
-pub const VALUES: usize = 32;
+pub const VALUES: usize = 18;
 
 // The first slot in use that has this number.
 pub fn find_number(t: &[u64], number: u64) -> Found
-    requires { ⌜ 32 ≤ length (now t) ⌝ }
+    requires { ⌜ 18 ≤ length (now t) ⌝ }
     ensures { λ r. ⌜ r ≡ found numbered (now (t .entry)) number ⌝ }
 {
     let mut i: usize = 0;
@@ -35,7 +35,7 @@ pub fn find_number(t: &[u64], number: u64) -> Found
 
 // A frame of a number: uses its slot, and for a new number the slot that it takes, where the number is then stored.
 pub fn enter_number(t: &mut [u64], number: u64) -> Place
-    requires { ⌜ 32 ≤ length (now t) ⌝ }
+    requires { ⌜ 18 ≤ length (now t) ⌝ }
     ensures { λ r. ⌜ record { table = now (t .exit); place = r } ≡ entered numbered (now (t .entry)) number ⌝ }
 {
     match find_number(t, number) {

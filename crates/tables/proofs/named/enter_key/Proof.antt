@@ -8,7 +8,7 @@ use Rattle.tables.proofs.named.enter_key.Tie as tie
 returns : tie.Need-returns
 returns c =
     let i = c .before .before .before .before .before in
-    entered-known _ _ _ (i .before .before .find-key .ensures) (λ i h m. key-again _ _ i m h) (i .i .given .1) (c .before .before .use-slot .ensures)
+    entered-known _ _ _ (i .before .before .find-key .ensures) (λ i h m. key-again _ _ _ i m h) (i .i .given .1) (c .before .before .use-slot .ensures)
 
 returns-2 : tie.Need-returns-2
 returns-2 c =

@@ -15,7 +15,7 @@ use Rattle.tables.proofs.named.find_key.Statement.{statement}
 use Rattle.tables.proofs.named.find_key.Tie as tie
 
 abbrev Inv-loop : tie.InvT-loop
-Inv-loop t key i₀ i = Reached (λ j. hasKey t key j && inUse (rankOf t) j) 16 i
+Inv-loop t key i₀ i = Reached (λ j. hasKey 2 t key j && inUse (rankOf t) j) 16 i
 
 abbrev μ-loop : tie.MeasureT-loop
 μ-loop t key i₀ i = 16 - i
