@@ -35,10 +35,10 @@ kept-after false last new = refl
 
 module _ (t key : List ℕ) (new : (ℕ × ℕ) × ℕ) {words first second out : List ℕ} {place : Place} {state sequence time a b c : ℕ} {replay : Bool} where
   pub numbers-checked : record { table = words; place = place } ≡ entered named t key
-      → state ≡ wordOf words 176 (place .slot) → sequence ≡ wordOf words 192 (place .slot) → time ≡ wordOf words 208 (place .slot)
+      → state ≡ wordOf words 162 (place .slot) → sequence ≡ wordOf words 178 (place .slot) → time ≡ wordOf words 194 (place .slot)
       → replay ≡ gooseReplay (ifKnown (place .known) ((state, sequence), time)) (new .0)
       → a ≡ numberOr replay state (new .0 .0) → b ≡ numberOr replay sequence (new .0 .1) → c ≡ numberOr replay time (new .1)
-      → first ≡ wordSet words 176 (place .slot) a → second ≡ wordSet first 192 (place .slot) b → out ≡ wordSet second 208 (place .slot) c
+      → first ≡ wordSet words 162 (place .slot) a → second ≡ wordSet first 178 (place .slot) b → out ≡ wordSet second 194 (place .slot) c
       → record { table = out; replay = replay } ≡ gooseChecked t key new
   unfolding gooseChecked
   numbers-checked e s q m r ka kb kc x y z =
@@ -49,7 +49,7 @@ module _ (t key : List ℕ) (new : (ℕ × ℕ) × ℕ) {words first second out 
       λ i. ((ka i, kb i), kc i) in
       let w = n ∙ ap (λ (g : Bool). ((numberOr g state (new .0 .0), numberOr g sequence (new .0 .1)), numberOr g time (new .1))) r
       ∙ kept-after (place .known) last new ∙ ap (λ x. after (λ i. i) keptNumbers x new) v in
-      let o = z ∙ ap (λ (l : List ℕ). wordSet l 208 (place .slot) c) (y ∙ ap (λ (l : List ℕ). wordSet l 192 (place .slot) b) x) in
+      let o = z ∙ ap (λ (l : List ℕ). wordSet l 194 (place .slot) c) (y ∙ ap (λ (l : List ℕ). wordSet l 178 (place .slot) b) x) in
       let p = value-stored named namedLaws threeNumbers threeLaws t key e (λ i. i) keptNumbers new w o in
       let g = r ∙ ap (λ x. gooseReplay x (new .0)) v in
       λ i. record { table = p i; replay = g i }
@@ -61,7 +61,7 @@ module _ (schedule : RetxSchedule) (t key : List ℕ) (new : (ℕ × ℕ) × ℕ
   retx-new e = ap (λ x. retransmission schedule (valueAt gooseStreams t x) new) (answered e s)
 
   pub retx-known : {slot state sequence time : ℕ} {r : Bool} → f ≡ At slot
-      → state ≡ wordOf t 176 slot → sequence ≡ wordOf t 192 slot → time ≡ wordOf t 208 slot
+      → state ≡ wordOf t 162 slot → sequence ≡ wordOf t 178 slot → time ≡ wordOf t 194 slot
       → r ≡ outsideTolerance schedule ((state, sequence), time) new → r ≡ retxChecked schedule t key new
   unfolding retxChecked found
   retx-known e x q m r =

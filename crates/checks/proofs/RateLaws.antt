@@ -32,18 +32,18 @@ bucket-after false w request = refl
 module _ (t : List ℕ) (key rate time : ℕ) {words first second out : List ℕ} {place : Place} {kept : RateBucket} {call : BucketCall} where
   pub rate-checked : record { table = words; place = place } ≡ entered numbered t key
       → kept ≡ bucketAt words (place .slot) → call ≡ bucketCall (ifKnown (place .known) kept) (rate, time)
-      → first ≡ wordSet words 32 (place .slot) (call .bucket .tokens) → second ≡ wordSet first 48 (place .slot) (call .bucket .capacity)
-      → out ≡ wordSet second 64 (place .slot) (call .bucket .«last_refill_us»)
+      → first ≡ wordSet words 18 (place .slot) (call .bucket .tokens) → second ≡ wordSet first 34 (place .slot) (call .bucket .capacity)
+      → out ≡ wordSet second 50 (place .slot) (call .bucket .«last_refill_us»)
       → record { table = out; allowed = call .allowed } ≡ rateChecked t key rate time
   unfolding rateChecked
   rate-checked e k l x y z =
-      let w : (ℕ × ℕ) × ℕ = ((wordOf words 32 (place .slot), wordOf words 48 (place .slot)), wordOf words 64 (place .slot)) in
+      let w : (ℕ × ℕ) × ℕ = ((wordOf words 18 (place .slot), wordOf words 34 (place .slot)), wordOf words 50 (place .slot)) in
       let v : ifKnown (place .known) w ≡ valueOf buckets t key = value-read numbered numberedLaws threeNumbers threeLaws t key e in
       let m = l ∙ ap (λ (r : RateBucket). bucketCall (ifKnown (place .known) r) (rate, time)) k ∙ kept-call (place .known) w (rate, time) in
       let n = ap (λ (r : BucketCall). bucketWords (r .bucket)) m ∙ bucket-after (place .known) w (rate, time)
       ∙ ap (λ x. after newBucket nextBucket x (rate, time)) v in
-      let o = z ∙ ap (λ (u : List ℕ). wordSet u 64 (place .slot) (call .bucket .«last_refill_us»))
-      (y ∙ ap (λ (u : List ℕ). wordSet u 48 (place .slot) (call .bucket .capacity)) x) in
+      let o = z ∙ ap (λ (u : List ℕ). wordSet u 50 (place .slot) (call .bucket .«last_refill_us»))
+      (y ∙ ap (λ (u : List ℕ). wordSet u 34 (place .slot) (call .bucket .capacity)) x) in
       let p = value-stored numbered numberedLaws threeNumbers threeLaws t key e newBucket nextBucket (rate, time) {w = bucketWords (call .bucket)} n o in
       let q = ap (λ (r : BucketCall). r .allowed) m ∙ ap (λ x. keptCall x (rate, time) .allowed) v in
       λ i. record { table = p i; allowed = q i }

@@ -13,7 +13,7 @@ use Rattle.records.specs.declared.search.Found.the-variants.{At, Nothing}
 use Rattle.tables.proofs.OrderLaws.{rank-below}
 use Rattle.tables.proofs.PackedLaws.{packed-same}
 use Rattle.tables.specs.Column.{wordOf, wordSet}
-use Rattle.tables.specs.Named.{keyStored, named}
+use Rattle.tables.specs.Named.{named}
 use Rattle.tables.specs.Order.{rankOf, rankSet, reranked, freeSlot}
 use Rattle.tables.specs.Packed.{packed}
 use Rattle.tables.specs.Place.{found}
@@ -22,16 +22,16 @@ use Rattle.checks.specs.Reservation.{freedSlot, freedRank, allFreed, rel
 
 -- ---- the use of a reservation
 
-module _ (t : List ℕ) (i address : ℕ) {bound : ℕ} (b : bound ≡ wordOf t 192 i) where
-  pub bind-first : {u v : List ℕ} → bound ≡ 0 → u ≡ wordSet t 192 i 1 → v ≡ wordSet u 208 i address → record { table = v; hijack = false } ≡ boundAt t i address
+module _ (t : List ℕ) (i address : ℕ) {bound : ℕ} (b : bound ≡ wordOf t 178 i) where
+  pub bind-first : {u v : List ℕ} → bound ≡ 0 → u ≡ wordSet t 178 i 1 → v ≡ wordSet u 194 i address → record { table = v; hijack = false } ≡ boundAt t i address
   unfolding boundAt
   bind-first e p q =
-      (λ j. record { table = (q ∙ ap (λ (l : List ℕ). wordSet l 208 i address) p) j; hijack = false })
-      ∙ sym (cond-yes _ _ (eq-eqb (wordOf t 192 i) 0 (sym b ∙ e)))
+      (λ j. record { table = (q ∙ ap (λ (l : List ℕ). wordSet l 194 i address) p) j; hijack = false })
+      ∙ sym (cond-yes _ _ (eq-eqb (wordOf t 178 i) 0 (sym b ∙ e)))
 
-  pub bound-already : {a : ℕ} → (bound ≡ 0 → ⊥) → a ≡ wordOf t 208 i → record { table = t; hijack = not (eqb a address) } ≡ boundAt t i address
+  pub bound-already : {a : ℕ} → (bound ≡ 0 → ⊥) → a ≡ wordOf t 194 i → record { table = t; hijack = not (eqb a address) } ≡ boundAt t i address
   unfolding boundAt
-  bound-already n q = (λ j. record { table = t; hijack = not (eqb (q j) address) }) ∙ sym (cond-no _ _ (ne-eqb (wordOf t 192 i) 0 (λ e. n (b ∙ e))))
+  bound-already n q = (λ j. record { table = t; hijack = not (eqb (q j) address) }) ∙ sym (cond-no _ _ (ne-eqb (wordOf t 178 i) 0 (λ e. n (b ∙ e))))
 
 module _ (t key : List ℕ) (address : ℕ) where
   pub cb-empty : getD key 1 0 ≡ 0 → record { table = t; hijack = false } ≡ cbChecked t key address
@@ -59,8 +59,8 @@ module _ (t key : List ℕ) {f : Found} (q : f ≡ found named t key) where
   place-free e s = s ∙ ap (λ x. placeOr x (freeSlot (rankOf t))) (answered e q)
 
 module _ (t key : List ℕ) (client : ℕ) where
-  pub taken : (i : ℕ) {a b c d e : List ℕ} → a ≡ keyStored t i key → b ≡ rankSet a i 0 → c ≡ wordSet b 176 i client → d ≡ wordSet c 192 i 0
-      → e ≡ wordSet d 208 i 0 → e ≡ takenAt t i key client
+  pub taken : (i : ℕ) {a b c d e : List ℕ} → a ≡ named .stored t i key → b ≡ rankSet a i 0 → c ≡ wordSet b 162 i client → d ≡ wordSet c 178 i 0
+      → e ≡ wordSet d 194 i 0 → e ≡ takenAt t i key client
   unfolding takenAt
   taken i p q r s u = rw (u, s, r, q, p)
 
@@ -76,11 +76,11 @@ module _ (t key : List ℕ) (client : ℕ) where
 -- ---- a release
 
 module _ (t : List ℕ) (client i : ℕ) where
-  pub freed-owned : getD t (176 + i) 0 ≡ client → 16 ≡ freedRank t client i
-  freed-owned e = sym (cond-yes _ _ (eq-eqb (getD t (176 + i) 0) client e))
+  pub freed-owned : getD t (162 + i) 0 ≡ client → 16 ≡ freedRank t client i
+  freed-owned e = sym (cond-yes _ _ (eq-eqb (getD t (162 + i) 0) client e))
 
-  pub freed-other : (getD t (176 + i) 0 ≡ client → ⊥) → {r : ℕ} → r ≡ rankOf t i → r ≡ freedRank t client i
-  freed-other n q = q ∙ sym (cond-no _ _ (ne-eqb (getD t (176 + i) 0) client n))
+  pub freed-other : (getD t (162 + i) 0 ≡ client → ⊥) → {r : ℕ} → r ≡ rankOf t i → r ≡ freedRank t client i
+  freed-other n q = q ∙ sym (cond-no _ _ (ne-eqb (getD t (162 + i) 0) client n))
 
   pub freed-octet : freedRank t client i < 256
   freed-octet = go (ownedBy t client i)

@@ -50,12 +50,12 @@ pub mms-stored : (t : List ℕ) (i mask : ℕ) (readOnly : Bool) (rate : ℕ) {f
 unfolding withMmsRule
 mms-stored t i mask readOnly rate p f q r = rw (r, q, f, p)
 
-pub goose-stored : (t : List ℕ) (i address : ℕ) (name : List ℕ) {a b : List ℕ} → a ≡ wordSet t 0 i address → b ≡ keyStored a i name
+pub goose-stored : (t : List ℕ) (i address : ℕ) (name : List ℕ) {a b : List ℕ} → a ≡ wordSet t 0 i address → b ≡ keyStored 16 a i name
     → set b 176 (i + 1) ≡ withGoosePublisher t i address name
 unfolding withGoosePublisher
 goose-stored t i address name p q = rw (q, p)
 
-pub sv-stored : (t : List ℕ) (i address : ℕ) (svid : List ℕ) (rate : ℕ) {a b c : List ℕ} → a ≡ wordSet t 0 i address → b ≡ keyStored a i svid
+pub sv-stored : (t : List ℕ) (i address : ℕ) (svid : List ℕ) (rate : ℕ) {a b c : List ℕ} → a ≡ wordSet t 0 i address → b ≡ keyStored 16 a i svid
     → c ≡ wordSet b 176 i rate → set c 192 (i + 1) ≡ withSvPublisher t i address svid rate
 unfolding withSvPublisher
 sv-stored t i address svid rate p q r = rw (r, q, p)

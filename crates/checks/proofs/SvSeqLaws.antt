@@ -48,9 +48,9 @@ kept-after true last n = refl
 kept-after false last n = refl
 
 module _ (t key : List ℕ) (n : ℕ) {words out : List ℕ} {place : Place} {last kept : ℕ} {outcome : SvSeqOutcome} {replay : Bool} where
-  pub count-checked : record { table = words; place = place } ≡ entered named t key → last ≡ wordOf words 176 (place .slot)
+  pub count-checked : record { table = words; place = place } ≡ entered named t key → last ≡ wordOf words 162 (place .slot)
       → outcome ≡ svOutcome (ifKnown (place .known) last) n → replay ≡ isReplay outcome → kept ≡ countOr replay last n
-      → out ≡ wordSet words 176 (place .slot) kept → record { table = out; outcome = outcome } ≡ svChecked t key n
+      → out ≡ wordSet words 162 (place .slot) kept → record { table = out; outcome = outcome } ≡ svChecked t key n
   unfolding svChecked
   count-checked e l o r k s =
       let v : ifKnown (place .known) last ≡ valueOf svStreams t key = ap (ifKnown (place .known)) l ∙ value-read named namedLaws oneNumber oneLaws t key e in

@@ -61,14 +61,14 @@ module _ (t : List ℕ) (limit address : ℕ) (pair : ℕ × ℕ) where
 
   module _ {words first out : List ℕ} {place : Place} {seconds fraction : ℕ} {alert : Bool} where
     pub time-checked : hasClock pair ≡ true → record { table = words; place = place } ≡ entered numbered t address
-        → seconds ≡ wordOf words 32 (place .slot) → fraction ≡ wordOf words 48 (place .slot)
-        → first ≡ wordSet words 32 (place .slot) (pair .0) → out ≡ wordSet first 48 (place .slot) (pair .1)
+        → seconds ≡ wordOf words 18 (place .slot) → fraction ≡ wordOf words 34 (place .slot)
+        → first ≡ wordSet words 18 (place .slot) (pair .0) → out ≡ wordSet first 34 (place .slot) (pair .1)
         → alert ≡ clockAlert limit (ifKnown (place .known) (seconds, fraction)) pair → record { table = out; alert = alert } ≡ timeChecked t limit address pair
     unfolding timeChecked
     time-checked h e s f u o a =
         let v : ifKnown (place .known) (seconds, fraction) ≡ valueOf clocks t address =
         ap (ifKnown (place .known)) (λ i. (s i, f i)) ∙ value-read numbered numberedLaws twoNumbers twoLaws t address e in
         let p = value-stored numbered numberedLaws twoNumbers twoLaws t address e (λ i. i) (λ kept i. i) pair {w = pair}
-        (latest pair (valueOf clocks t address)) (o ∙ ap (λ (l : List ℕ). wordSet l 48 (place .slot) (pair .1)) u) in
+        (latest pair (valueOf clocks t address)) (o ∙ ap (λ (l : List ℕ). wordSet l 34 (place .slot) (pair .1)) u) in
         let q = a ∙ ap (λ x. clockAlert limit x pair) v in
         (λ i. record { table = p i; alert = q i }) ∙ sym (cond-yes _ _ h)

@@ -1,5 +1,5 @@
--- GOOSE publishers (01, "Rules": a rule with an empty name fits any name of its address). Addresses, the key columns of a table by name, and the
--- count at word 176.
+-- GOOSE publishers (01, "Rules": a rule with an empty name fits any name of its address). Addresses, the key columns of a table by name from
+-- word 16 on, and the count at 176.
 use Prim.Native.Nat.{ℕ, _+_}
 use mathlib.Core.Bool.{Bool, _&&_, _||_}
 use mathlib.Core.List.{List}
@@ -14,7 +14,7 @@ use Rattle.checks.specs.Rules.{ruleCount, addAnswer, RuleAdded, ruleAdde
 
 -- whether the rule at a place fits an address and a control block's name
 unfoldable pub gooseFitsAt : List ℕ → ℕ → List ℕ → ℕ → Bool
-gooseFitsAt p address name i = eqb (wordOf p 0 i) address && (eqb (wordOf p 32 i) 0 || hasKey p name i)
+gooseFitsAt p address name i = eqb (wordOf p 0 i) address && (eqb (wordOf p 32 i) 0 || hasKey 16 p name i)
 
 -- the place of the first rule that fits
 unfoldable pub goosePublisher : List ℕ → ℕ → List ℕ → Found
@@ -22,7 +22,7 @@ goosePublisher p address name = firstFrom (gooseFitsAt p address name) 0 (ruleCo
 
 -- with one more rule at a place, behind the others
 unfoldable pub withGoosePublisher : List ℕ → ℕ → ℕ → List ℕ → List ℕ
-withGoosePublisher p i address name = set (keyStored (wordSet p 0 i address) i name) 176 (i + 1)
+withGoosePublisher p i address name = set (keyStored 16 (wordSet p 0 i address) i name) 176 (i + 1)
 
 -- an add call
 unfoldable pub gooseAdded : List ℕ → ℕ → List ℕ → RuleAdded

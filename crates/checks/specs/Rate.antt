@@ -17,7 +17,7 @@ bucketOf w = record { tokens = min (w .0 .0) 65535; capacity = min (w .0 .1) 655
 
 -- the bucket of a slot
 abbrev pub bucketAt : List ℕ → ℕ → RateBucket
-bucketAt t slot = bucketOf ((wordOf t 32 slot, wordOf t 48 slot), wordOf t 64 slot)
+bucketAt t slot = bucketOf ((wordOf t 18 slot, wordOf t 34 slot), wordOf t 50 slot)
 
 abbrev pub bucketWords : RateBucket → (ℕ × ℕ) × ℕ
 bucketWords b = ((b .tokens, b .capacity), b .«last_refill_us»)

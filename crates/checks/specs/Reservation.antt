@@ -8,13 +8,13 @@ use Rattle.records.specs.declared.search.Found.{Found}
 use Rattle.records.specs.declared.search.Found.the-variants.{At, Nothing}
 use Rattle.records.specs.Search.{first}
 use Rattle.tables.specs.Column.{wordOf, wordSet}
-use Rattle.tables.specs.Named.{hasKey, keyStored, named}
+use Rattle.tables.specs.Named.{named}
 use Rattle.tables.specs.Order.{rankOf, inUse, rankSet, reranked, freeSlot}
 use Rattle.tables.specs.Place.{found}
 
 -- a slot with a client's reservation that is not bound; it is in use, with rank 0
 unfoldable pub takenAt : List ℕ → ℕ → List ℕ → ℕ → List ℕ
-takenAt t i key client = wordSet (wordSet (wordSet (rankSet (keyStored t i key) i 0) 176 i client) 192 i 0) 208 i 0
+takenAt t i key client = wordSet (wordSet (wordSet (rankSet (named .stored t i key) i 0) 162 i client) 178 i 0) 194 i 0
 
 -- the slot that a SelectControl takes: the one of that name and kind, taken over, or the first free one
 abbrev pub placeOr : Found → Found → Found
@@ -39,11 +39,11 @@ reserved t key client = reservedAt t key client (placeFor t key)
 
 -- whether a slot's client is this one
 abbrev pub ownedBy : List ℕ → ℕ → ℕ → Bool
-ownedBy t client i = eqb (getD t (176 + i) 0) client
+ownedBy t client i = eqb (getD t (162 + i) 0) client
 
 -- the first slot in use with a client's reservation of a name and kind
 unfoldable pub ownedSlot : List ℕ → List ℕ → ℕ → Found
-ownedSlot t key client = first (λ i. hasKey t key i && (inUse (rankOf t) i && ownedBy t client i))
+ownedSlot t key client = first (λ i. named .matches t key i && (inUse (rankOf t) i && ownedBy t client i))
 
 -- that slot freed, if there is one
 abbrev pub freedSlot : List ℕ → Found → List ℕ
@@ -70,9 +70,9 @@ pub record CbChecked : Type 0 where
 -- the first address to use a reservation is bound; another is a hijack
 unfoldable pub boundAt : List ℕ → ℕ → ℕ → CbChecked
 boundAt t i address =
-    cond (eqb (wordOf t 192 i) 0)
-    (record { table = wordSet (wordSet t 192 i 1) 208 i address; hijack = false })
-    (record { table = t; hijack = not (eqb (wordOf t 208 i) address) })
+    cond (eqb (wordOf t 178 i) 0)
+    (record { table = wordSet (wordSet t 178 i 1) 194 i address; hijack = false })
+    (record { table = t; hijack = not (eqb (wordOf t 194 i) address) })
 
 abbrev pub boundBy : List ℕ → ℕ → Found → CbChecked
 boundBy t address Nothing = record { table = t; hijack = false }

@@ -1,5 +1,5 @@
--- SV publishers (01, "Rules": if several rules fit name and address, the last one's rate counts). Addresses, the key columns of a table by name,
--- rates from word 176 on, and the count at 192.
+-- SV publishers (01, "Rules": if several rules fit name and address, the last one's rate counts). Addresses, the key columns of a table by name
+-- from word 16 on, rates from 176 on, and the count at 192.
 use Prim.Native.Nat.{ℕ, _+_, min}
 use mathlib.Core.Bool.{Bool, _&&_, cond}
 use mathlib.Core.List.{List}
@@ -27,12 +27,12 @@ matchAt isRegistered Nothing = cond isRegistered WrongAddress NotRegistered
 -- how an svID and an address match the rules
 unfoldable pub svPublisher : List ℕ → ℕ → List ℕ → PublisherMatch
 svPublisher p address svid =
-    matchAt (isFound (lastBelow (λ i. hasKey p svid i) (ruleCount (getD p 192 0))))
-    (lastBelow (λ i. hasKey p svid i && hasAddress p address i) (ruleCount (getD p 192 0)))
+    matchAt (isFound (lastBelow (λ i. hasKey 16 p svid i) (ruleCount (getD p 192 0))))
+    (lastBelow (λ i. hasKey 16 p svid i && hasAddress p address i) (ruleCount (getD p 192 0)))
 
 -- with one more rule at a place, behind the others
 unfoldable pub withSvPublisher : List ℕ → ℕ → ℕ → List ℕ → ℕ → List ℕ
-withSvPublisher p i address svid rate = set (wordSet (keyStored (wordSet p 0 i address) i svid) 176 i rate) 192 (i + 1)
+withSvPublisher p i address svid rate = set (wordSet (keyStored 16 (wordSet p 0 i address) i svid) 176 i rate) 192 (i + 1)
 
 -- the rate of the rule at a place
 abbrev pub publisherRate : List ℕ → ℕ → ℕ

@@ -1,5 +1,5 @@
-// GOOSE publishers, carried over from industrial/iec61850-monitor/src/lib.rs of craton-shield a31d888527 (Apache-2.0) and changed: the key
-// columns of a table by name, with addresses in place of ranks, and the count behind them.
+// GOOSE publishers, carried over from industrial/iec61850-monitor/src/lib.rs of craton-shield a31d888527 (Apache-2.0) and changed: addresses,
+// the key columns of a table by name, and the count behind them.
 ghost use mathlib.Core.Path.{_≡_};
 ghost use Prim.Native.Nat.{_≤_};
 ghost use lib.ListN.{length};
@@ -11,14 +11,15 @@ use crate::rules::rule_count;
 use records::search::Found;
 use tables::column::set_word;
 use tables::column::word;
-use tables::named::VALUES;
 use tables::named::has_key;
 use tables::named::store_key;
 
-// Where the lengths of names and the count stand.
+// Where the keys begin, behind the addresses, and where the lengths of names and the count stand.
+const KEYS: usize = 16;
+
 const LENGTHS: usize = 32;
 
-const COUNT: usize = VALUES;
+const COUNT: usize = 176;
 
 // Whether the rule at a place fits an address and a control block's name.
 fn fits_at(t: &[u64], place: usize, address: u64, name: &[u64; 10]) -> bool
@@ -31,7 +32,7 @@ fn fits_at(t: &[u64], place: usize, address: u64, name: &[u64; 10]) -> bool
     if word(t, LENGTHS, place) == 0 {
         return true;
     }
-    has_key(t, place, name)
+    has_key(t, KEYS, place, name)
 }
 
 // The place of the first rule that fits.
@@ -58,7 +59,7 @@ fn store_goose_publisher(t: &mut [u64], slot: usize, address: u64, name: &[u64; 
     ensures { λ _. ⌜ now (t .exit) ≡ withGoosePublisher (now (t .entry)) slot address (now (name .entry)) ⌝ }
 {
     set_word(t, 0, slot, address);
-    store_key(t, slot, name);
+    store_key(t, KEYS, slot, name);
     t[COUNT] = (slot as u64) + 1;
 }
 

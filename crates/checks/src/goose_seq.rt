@@ -103,7 +103,7 @@ pub fn retx_anomaly(
     sq_num: u32,
     now_us: u64,
 ) -> bool
-    requires { ⌜ length (now t) ≡ 224 ⌝ }
+    requires { ⌜ length (now t) ≡ 210 ⌝ }
     ensures { λ r. ⌜ r ≡ retxChecked schedule (now (t .entry)) (now (key .entry)) ((«st_num», «sq_num»), «now_us») ⌝ }
 {
     match find_key(t, key) {
@@ -128,7 +128,7 @@ pub fn check_goose_seq_in(
     sq_num: u32,
     now_us: u64,
 ) -> bool
-    requires { ⌜ length (now t) ≡ 224 ⌝ }
+    requires { ⌜ length (now t) ≡ 210 ⌝ }
     ensures { λ r.
         ⌜ record { table = now (t .exit); replay = r } ≡ gooseChecked (now (t .entry)) (now (key .entry)) ((«st_num», «sq_num»), «now_us») ⌝ }
 {

@@ -20,7 +20,7 @@ const REFILLS: usize = VALUES + 32;
 
 // The bucket of a slot.
 fn bucket_at(t: &[u64], slot: usize) -> RateBucket
-    requires { ⌜ (length (now t) ≡ 80) × (slot < 16) ⌝ }
+    requires { ⌜ (length (now t) ≡ 66) × (slot < 16) ⌝ }
     ensures { λ r. ⌜ r ≡ bucketAt (now (t .entry)) slot ⌝ }
 {
     RateBucket {
@@ -46,7 +46,7 @@ fn bucket_call(known: bool, kept: RateBucket, max_rate: u16, now_us: u64) -> Buc
 // Takes a request into the table of buckets, and answers whether it is within its rate. A new key's request is; an existing bucket keeps
 // its capacity.
 pub fn rate_check_in(t: &mut [u64], key: u32, max_rate: u16, now_us: u64) -> bool
-    requires { ⌜ length (now t) ≡ 80 ⌝ }
+    requires { ⌜ length (now t) ≡ 66 ⌝ }
     ensures { λ r. ⌜ record { table = now (t .exit); allowed = r } ≡ rateChecked (now (t .entry)) key «max_rate» «now_us» ⌝ }
 {
     let place = enter_number(t, key as u64);

@@ -8,6 +8,7 @@ ghost use Rattle.checks.specs.Reservation.{boundAt, cbChecked, placeFor,
 use records::search::Found;
 use tables::column::set_word;
 use tables::column::word;
+use tables::named::KEYS;
 use tables::named::VALUES;
 use tables::named::find_key;
 use tables::named::has_key;
@@ -25,7 +26,7 @@ const ADDRESSES: usize = VALUES + 32;
 
 // Binds a slot's reservation to the first address that uses it; another is a hijack.
 fn bind_at(t: &mut [u64], slot: usize, address: u64) -> bool
-    requires { ⌜ length (now t) ≡ 224 ⌝ }
+    requires { ⌜ length (now t) ≡ 210 ⌝ }
     ensures { λ r. ⌜ record { table = now (t .exit); hijack = r } ≡ boundAt (now (t .entry)) slot address ⌝ }
 {
     if word(t, BOUND, slot) == 0 {
@@ -38,7 +39,7 @@ fn bind_at(t: &mut [u64], slot: usize, address: u64) -> bool
 
 // The use of a control block by an address, and whether it is bound to another. An empty name is never looked up.
 pub fn check_cb_in(t: &mut [u64], key: &[u64; 10], address: u64) -> bool
-    requires { ⌜ length (now t) ≡ 224 ⌝ }
+    requires { ⌜ length (now t) ≡ 210 ⌝ }
     ensures { λ r. ⌜ record { table = now (t .exit); hijack = r } ≡ cbChecked (now (t .entry)) (now (key .entry)) address ⌝ }
 {
     if key[1] == 0 {
@@ -52,7 +53,7 @@ pub fn check_cb_in(t: &mut [u64], key: &[u64; 10], address: u64) -> bool
 
 // The slot that a SelectControl takes: the one of that name and kind, or the first free one.
 fn place_for(t: &[u64], key: &[u64; 10]) -> Found
-    requires { ⌜ length (now t) ≡ 224 ⌝ }
+    requires { ⌜ length (now t) ≡ 210 ⌝ }
     ensures { λ r. ⌜ r ≡ placeFor (now (t .entry)) (now (key .entry)) ⌝ }
 {
     match find_key(t, key) {
@@ -63,10 +64,10 @@ fn place_for(t: &[u64], key: &[u64; 10]) -> Found
 
 // Takes a slot for a client's reservation, which is not bound.
 fn take_at(t: &mut [u64], slot: usize, key: &[u64; 10], client: u32)
-    requires { ⌜ length (now t) ≡ 224 ⌝ }
+    requires { ⌜ length (now t) ≡ 210 ⌝ }
     ensures { λ _. ⌜ now (t .exit) ≡ takenAt (now (t .entry)) slot (now (key .entry)) client ⌝ }
 {
-    store_key(t, slot, key);
+    store_key(t, KEYS, slot, key);
     set_rank(t, slot, 0);
     set_word(t, OWNERS, slot, client as u64);
     set_word(t, BOUND, slot, 0);
@@ -75,7 +76,7 @@ fn take_at(t: &mut [u64], slot: usize, key: &[u64; 10], client: u32)
 
 // A SelectControl takes or takes over a name, the empty one too; a full table is left as it is. Answers whether it was taken.
 pub fn reserve_cb_in(t: &mut [u64], key: &[u64; 10], client: u32) -> bool
-    requires { ⌜ length (now t) ≡ 224 ⌝ }
+    requires { ⌜ length (now t) ≡ 210 ⌝ }
     ensures { λ r. ⌜ record { table = now (t .exit); taken = r } ≡ reserved (now (t .entry)) (now (key .entry)) client ⌝ }
 {
     match place_for(t, key) {
@@ -89,7 +90,7 @@ pub fn reserve_cb_in(t: &mut [u64], key: &[u64; 10], client: u32) -> bool
 
 // The first slot in use with this client's reservation of this name and kind.
 fn owned_slot(t: &[u64], key: &[u64; 10], client: u32) -> Found
-    requires { ⌜ length (now t) ≡ 224 ⌝ }
+    requires { ⌜ length (now t) ≡ 210 ⌝ }
     ensures { λ r. ⌜ r ≡ ownedSlot (now (t .entry)) (now (key .entry)) client ⌝ }
 {
     let mut i: usize = 0;
@@ -97,7 +98,7 @@ fn owned_slot(t: &[u64], key: &[u64; 10], client: u32) -> Found
         if i >= 16 {
             break Found::Nothing;
         }
-        if has_key(t, i, key) && rank_at(t, i) < 16 && t[OWNERS + i] == (client as u64) {
+        if has_key(t, KEYS, i, key) && rank_at(t, i) < 16 && t[OWNERS + i] == (client as u64) {
             break Found::At(i);
         }
         i += 1;
@@ -106,7 +107,7 @@ fn owned_slot(t: &[u64], key: &[u64; 10], client: u32) -> Found
 
 // The rank of a slot, 16 if its client is this one.
 fn freed_rank(t: &[u64], slot: usize, client: u32) -> u64
-    requires { ⌜ (length (now t) ≡ 224) × (slot < 16) ⌝ }
+    requires { ⌜ (length (now t) ≡ 210) × (slot < 16) ⌝ }
     ensures { λ r. ⌜ r ≡ freedRank (now (t .entry)) client slot ⌝ }
 {
     if t[OWNERS + slot] == (client as u64) {
@@ -117,7 +118,7 @@ fn freed_rank(t: &[u64], slot: usize, client: u32) -> u64
 
 // The word of these ranks for eight slots, made from the last octet on.
 fn freed_word(t: &[u64], start: usize, client: u32) -> u64
-    requires { ⌜ (length (now t) ≡ 224) × (start ≤ 8) ⌝ }
+    requires { ⌜ (length (now t) ≡ 210) × (start ≤ 8) ⌝ }
     ensures { λ r. ⌜ r ≡ packed (λ j. freedRank (now (t .entry)) client (start + j)) 8 ⌝ }
 {
     let mut out: u64 = 0;
@@ -131,7 +132,7 @@ fn freed_word(t: &[u64], start: usize, client: u32) -> u64
 
 // Frees every slot of a client.
 fn free_all(t: &mut [u64], client: u32)
-    requires { ⌜ length (now t) ≡ 224 ⌝ }
+    requires { ⌜ length (now t) ≡ 210 ⌝ }
     ensures { λ _. ⌜ now (t .exit) ≡ allFreed (now (t .entry)) client ⌝ }
 {
     let first = freed_word(t, 0, client);
@@ -142,7 +143,7 @@ fn free_all(t: &mut [u64], client: u32)
 
 // A Cancel or Conclude frees a name of the same client, with an empty name all of that client's of both kinds.
 pub fn release_cb_in(t: &mut [u64], key: &[u64; 10], client: u32)
-    requires { ⌜ length (now t) ≡ 224 ⌝ }
+    requires { ⌜ length (now t) ≡ 210 ⌝ }
     ensures { λ _. ⌜ now (t .exit) ≡ released (now (t .entry)) (now (key .entry)) client ⌝ }
 {
     if key[1] == 0 {

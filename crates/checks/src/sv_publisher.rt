@@ -1,5 +1,5 @@
-// SV publishers, carried over from industrial/iec61850-monitor/src/lib.rs of craton-shield a31d888527 (Apache-2.0) and changed: the key
-// columns of a table by name, with addresses in place of ranks, then rates, and the count behind them.
+// SV publishers, carried over from industrial/iec61850-monitor/src/lib.rs of craton-shield a31d888527 (Apache-2.0) and changed: addresses,
+// the key columns of a table by name, rates, and the count behind them.
 ghost use mathlib.Core.Path.{_≡_};
 ghost use Prim.Native.Nat.{_≤_};
 ghost use lib.ListN.{length};
@@ -11,14 +11,15 @@ use crate::rules::rule_count;
 use records::search::Found;
 use tables::column::set_word;
 use tables::column::word16;
-use tables::named::VALUES;
 use tables::named::has_key;
 use tables::named::store_key;
 
-// Where rates and count stand.
-const RATES: usize = VALUES;
+// Where the keys begin, behind the addresses, and where rates and count stand.
+const KEYS: usize = 16;
 
-const COUNT: usize = VALUES + 16;
+const RATES: usize = 176;
+
+const COUNT: usize = 192;
 
 // How a frame's svID and address match the rules: fitting, at the last place that fits.
 pub enum PublisherMatch {
@@ -53,7 +54,7 @@ pub fn sv_publisher(t: &[u64], address: u64, svid: &[u64; 10]) -> PublisherMatch
     let mut place = Found::Nothing;
     let mut i: usize = 0;
     while i < n {
-        if has_key(t, i, svid) {
+        if has_key(t, KEYS, i, svid) {
             is_registered = true;
             if t[i] == address {
                 place = Found::At(i);
@@ -78,7 +79,7 @@ fn store_sv_publisher(t: &mut [u64], slot: usize, address: u64, svid: &[u64; 10]
     ensures { λ _. ⌜ now (t .exit) ≡ withSvPublisher (now (t .entry)) slot address (now (svid .entry)) rate ⌝ }
 {
     set_word(t, 0, slot, address);
-    store_key(t, slot, svid);
+    store_key(t, KEYS, slot, svid);
     set_word(t, RATES, slot, rate as u64);
     t[COUNT] = (slot as u64) + 1;
 }

@@ -78,7 +78,7 @@ fn count_or(replay: bool, last: u64, smp_cnt: u16) -> u64
 
 // Checks a frame's count in the table of streams, and answers what it says.
 pub fn check_sv_seq_in(t: &mut [u64], svid: &[u64; 10], smp_cnt: u16) -> SvSeqOutcome
-    requires { ⌜ length (now t) ≡ 192 ⌝ }
+    requires { ⌜ length (now t) ≡ 178 ⌝ }
     ensures { λ r. ⌜ record { table = now (t .exit); outcome = r } ≡ svChecked (now (t .entry)) (now (svid .entry)) «smp_cnt» ⌝ }
 {
     let place = enter_key(t, svid);

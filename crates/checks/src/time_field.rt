@@ -57,7 +57,7 @@ pub fn check_time_field_in(
     seconds: u32,
     fraction: u32,
 ) -> bool
-    requires { ⌜ length (now t) ≡ 64 ⌝ }
+    requires { ⌜ length (now t) ≡ 50 ⌝ }
     ensures { λ r. ⌜ record { table = now (t .exit); alert = r } ≡ timeChecked (now (t .entry)) limit address (seconds, fraction) ⌝ }
 {
     if !has_clock(seconds, fraction) {

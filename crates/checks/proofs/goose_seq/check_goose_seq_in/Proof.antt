@@ -12,7 +12,7 @@ use Rattle.checks.proofs.goose_seq.check_goose_seq_in.Statement.{statem
 use Rattle.checks.proofs.goose_seq.check_goose_seq_in.Tie as tie
 
 -- the table has its size, and the slot that the frame used is one of the sixteen
-inside : (s : tie.After-t) → (length (s .before .enter-key .last .0) ≡ 224) × (s .before .enter-key .result .slot < 16)
+inside : (s : tie.After-t) → (length (s .before .enter-key .last .0) ≡ 210) × (s .before .enter-key .result .slot < 16)
 inside s = (s .t .given ∙ s .before .before .before .before .pre, entered-below named _ _ (s .before .enter-key .ensures))
 
 -- where the frame was entered
@@ -26,9 +26,9 @@ returns c =
     let s = entered-at x in
     let a = s .before .before .before .before .args in
     let h = inside s .1 in
-    numbers-checked _ _ ((a .st-num, a .sq-num), a .now-us) (s .before .enter-key .ensures) (sym (word-at _ _ h 176)) (sym (word-at _ _ h 192))
-    (sym (word-at _ _ h 208)) (x .before .goose-replay .ensures) (x .number-or .ensures) (y .number-or2 .ensures) (c .number-or3 .ensures)
-    (sym (word-set _ _ h 176 _)) (sym (word-set _ _ h 192 _)) (sym (word-set _ _ h 208 _))
+    numbers-checked _ _ ((a .st-num, a .sq-num), a .now-us) (s .before .enter-key .ensures) (sym (word-at _ _ h 162)) (sym (word-at _ _ h 178))
+    (sym (word-at _ _ h 194)) (x .before .goose-replay .ensures) (x .number-or .ensures) (y .number-or2 .ensures) (c .number-or3 .ensures)
+    (sym (word-set _ _ h 162 _)) (sym (word-set _ _ h 178 _)) (sym (word-set _ _ h 194 _))
 
 pub check-goose-seq-in-spec : {M : Type 1} → statement M
 check-goose-seq-in-spec =

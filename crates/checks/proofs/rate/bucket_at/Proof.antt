@@ -11,9 +11,9 @@ returns c =
     let second = c .before in
     let first = second .before .before in
     let h = first .before .before .before .pre .1 in
-    let t = first .narrowed .ensures ∙ ap (λ (x : ℕ). min x 65535) (sym (word-at _ _ h 32)) in
-    let u = second .narrowed2 .ensures ∙ ap (λ (x : ℕ). min x 65535) (sym (word-at _ _ h 48)) in
-    let v = sym (word-at _ _ h 64) in
+    let t = first .narrowed .ensures ∙ ap (λ (x : ℕ). min x 65535) (sym (word-at _ _ h 18)) in
+    let u = second .narrowed2 .ensures ∙ ap (λ (x : ℕ). min x 65535) (sym (word-at _ _ h 34)) in
+    let v = sym (word-at _ _ h 50) in
     λ i. record { tokens = t i; capacity = u i; «last_refill_us» = v i }
 
 pub bucket-at-spec : {M : Type 1} → statement M

@@ -12,7 +12,7 @@ use Rattle.checks.proofs.rate.rate_check_in.Statement.{statement}
 use Rattle.checks.proofs.rate.rate_check_in.Tie as tie
 
 -- the table has its size, and the slot that the request used is one of the sixteen
-inside : (s : tie.After-t) → (length (s .before .enter-number .last .0) ≡ 80) × (s .before .enter-number .result .slot < 16)
+inside : (s : tie.After-t) → (length (s .before .enter-number .last .0) ≡ 66) × (s .before .enter-number .result .slot < 16)
 inside s = (s .t .given ∙ s .before .before .before .before .pre, entered-below numbered _ _ (s .before .enter-number .ensures))
 
 -- where the request was entered
@@ -25,7 +25,7 @@ returns c =
     let s = entered-at (c .before) in
     let h = inside s .1 in
     rate-checked _ _ _ _ (s .before .enter-number .ensures) (l .before .bucket-at .ensures) (l .bucket-call .ensures)
-    (sym (word-set _ _ h 32 _)) (sym (word-set _ _ h 48 _)) (sym (word-set _ _ h 64 _))
+    (sym (word-set _ _ h 18 _)) (sym (word-set _ _ h 34 _)) (sym (word-set _ _ h 50 _))
 
 pub rate-check-in-spec : {M : Type 1} → statement M
 rate-check-in-spec =

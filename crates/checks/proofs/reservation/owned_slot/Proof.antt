@@ -6,7 +6,7 @@ use Prim.Native.Nat.{_-_}
 use Rattle.records.proofs.Booleans.{and-yes, and-no}
 use Rattle.records.proofs.SearchLaws.{Reached, reached-first, reached-end, reached-hit, reached-next}
 use Rattle.tables.proofs.OrderLaws.{in-use-read}
-use Rattle.tables.specs.Named.{hasKey}
+use Rattle.tables.specs.Named.{named}
 use Rattle.tables.specs.Order.{rankOf, inUse}
 use Rattle.checks.specs.Reservation.{ownedBy, ownedSlot}
 use native.Mathlib.Omega.{arith}
@@ -15,7 +15,7 @@ use Rattle.checks.proofs.reservation.owned_slot.Statement.{statement}
 use Rattle.checks.proofs.reservation.owned_slot.Tie as tie
 
 abbrev Inv-loop : tie.InvT-loop
-Inv-loop t key client i₀ i = Reached (λ j. hasKey t key j && (inUse (rankOf t) j && ownedBy t client j)) 16 i
+Inv-loop t key client i₀ i = Reached (λ j. named .matches t key j && (inUse (rankOf t) j && ownedBy t client j)) 16 i
 
 abbrev μ-loop : tie.MeasureT-loop
 μ-loop t key client i₀ i = 16 - i

@@ -15,7 +15,7 @@ use Rattle.checks.proofs.sv_publisher.sv_publisher.Tie as tie
 
 abbrev Inv-loop : tie.InvT-loop
 Inv-loop t address svid n is-registered₀ place₀ i₀ is-registered place i =
-    (i ≤ n) × (n ≡ ruleCount (getD t 192 0)) × Compared (λ j. hasKey t svid j) (λ j. hasAddress t address j) i is-registered place
+    (i ≤ n) × (n ≡ ruleCount (getD t 192 0)) × Compared (λ j. hasKey 16 t svid j) (λ j. hasAddress t address j) i is-registered place
 
 abbrev μ-loop : tie.MeasureT-loop
 μ-loop t address svid n is-registered₀ place₀ i₀ is-registered place i = n - i

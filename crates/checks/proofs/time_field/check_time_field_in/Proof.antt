@@ -13,7 +13,7 @@ use Rattle.checks.proofs.time_field.check_time_field_in.Statement.{stat
 use Rattle.checks.proofs.time_field.check_time_field_in.Tie as tie
 
 -- the table has its size, and the slot that the frame used is one of the sixteen
-inside : (s : tie.After-t) → (length (s .before .enter-number .last .0) ≡ 64) × (s .before .enter-number .result .slot < 16)
+inside : (s : tie.After-t) → (length (s .before .enter-number .last .0) ≡ 50) × (s .before .enter-number .result .slot < 16)
 inside s = (s .t .given ∙ s .before .before .before .before .before .before .pre, entered-below numbered _ _ (s .before .enter-number .ensures))
 
 returns : tie.Need-returns
@@ -28,7 +28,7 @@ returns-2 c =
     let a = i .before .before .before .args in
     let h = inside s .1 in
     time-checked _ _ _ (a .seconds, a .fraction) (sym (i .before .has-clock .ensures) ∙ not-false _ (i .if1 .left)) (s .before .enter-number .ensures)
-    (sym (word-at _ _ h 32)) (sym (word-at _ _ h 48)) (sym (word-set _ _ h 32 _)) (sym (word-set _ _ h 48 _)) (c .clock-alerts .ensures)
+    (sym (word-at _ _ h 18)) (sym (word-at _ _ h 34)) (sym (word-set _ _ h 18 _)) (sym (word-set _ _ h 34 _)) (c .clock-alerts .ensures)
 
 pub check-time-field-in-spec : {M : Type 1} → statement M
 check-time-field-in-spec =
