@@ -10,16 +10,16 @@ use Rattle.monitor.specs.Monitor.{Monitor, Sized, monitorOf, wordsOf}
 part-on : (l : List ℕ) (b n : ℕ) → take n (drop b l) ++ drop (b + n) l ≡ drop b l
 part-on l b n = ap (λ (r : List ℕ). take n (drop b l) ++ r) (sym (drop-drop n b l)) ∙ take-append-drop n (drop b l)
 
-pub words-monitor : (l : List ℕ) → length l ≡ 1218 → wordsOf (monitorOf l) ≡ l
+pub words-monitor : (l : List ℕ) → length l ≡ 1148 → wordsOf (monitorOf l) ≡ l
 unfolding wordsOf monitorOf
 words-monitor l z =
-    let e : take 224 (drop 994 l) ≡ drop 994 l = take-all 224 (drop 994 l) (omega (arith, length-drop 994 l)) in
+    let e : take 210 (drop 938 l) ≡ drop 938 l = take-all 210 (drop 938 l) (omega (arith, length-drop 938 l)) in
     rw (
       e,
-      part-on l 930 64,
-      part-on l 738 192,
-      part-on l 514 224,
-      part-on l 434 80,
+      part-on l 888 50,
+      part-on l 710 178,
+      part-on l 500 210,
+      part-on l 434 66,
       part-on l 241 193,
       part-on l 64 177,
       part-on l 15 49,
@@ -54,19 +54,19 @@ monitor-words m z =
     let d3 = rest-is r0 (m .«mms_rules») r3 15 49 d2 (z .«mms_rules») in
     let d4 = rest-is r0 (m .«goose_publishers») r4 64 177 d3 (z .«goose_publishers») in
     let d5 = rest-is r0 (m .«sv_publishers») r5 241 193 d4 (z .«sv_publishers») in
-    let d6 = rest-is r0 (m .«rate_buckets») r6 434 80 d5 (z .«rate_buckets») in
-    let d7 = rest-is r0 (m .«goose_seq») r7 514 224 d6 (z .«goose_seq») in
-    let d8 = rest-is r0 (m .«sv_seq») r8 738 192 d7 (z .«sv_seq») in
-    let d9 = rest-is r0 (m .«time_trackers») r9 930 64 d8 (z .«time_trackers») in
+    let d6 = rest-is r0 (m .«rate_buckets») r6 434 66 d5 (z .«rate_buckets») in
+    let d7 = rest-is r0 (m .«goose_seq») r7 500 210 d6 (z .«goose_seq») in
+    let d8 = rest-is r0 (m .«sv_seq») r8 710 178 d7 (z .«sv_seq») in
+    let d9 = rest-is r0 (m .«time_trackers») r9 888 50 d8 (z .«time_trackers») in
     λ i. record {
       settings = part-is r0 (m .settings) r1 0 10 d0 (z .settings) i;
       totals = part-is r0 (m .totals) r2 10 5 d1 (z .totals) i;
       «mms_rules» = part-is r0 (m .«mms_rules») r3 15 49 d2 (z .«mms_rules») i;
       «goose_publishers» = part-is r0 (m .«goose_publishers») r4 64 177 d3 (z .«goose_publishers») i;
       «sv_publishers» = part-is r0 (m .«sv_publishers») r5 241 193 d4 (z .«sv_publishers») i;
-      «rate_buckets» = part-is r0 (m .«rate_buckets») r6 434 80 d5 (z .«rate_buckets») i;
-      «goose_seq» = part-is r0 (m .«goose_seq») r7 514 224 d6 (z .«goose_seq») i;
-      «sv_seq» = part-is r0 (m .«sv_seq») r8 738 192 d7 (z .«sv_seq») i;
-      «time_trackers» = part-is r0 (m .«time_trackers») r9 930 64 d8 (z .«time_trackers») i;
-      «cb_reservations» = (ap (take 224) d9 ∙ take-all 224 (m .«cb_reservations») (omega (arith, z .«cb_reservations»))) i;
+      «rate_buckets» = part-is r0 (m .«rate_buckets») r6 434 66 d5 (z .«rate_buckets») i;
+      «goose_seq» = part-is r0 (m .«goose_seq») r7 500 210 d6 (z .«goose_seq») i;
+      «sv_seq» = part-is r0 (m .«sv_seq») r8 710 178 d7 (z .«sv_seq») i;
+      «time_trackers» = part-is r0 (m .«time_trackers») r9 888 50 d8 (z .«time_trackers») i;
+      «cb_reservations» = (ap (take 210) d9 ∙ take-all 210 (m .«cb_reservations») (omega (arith, z .«cb_reservations»))) i;
     }

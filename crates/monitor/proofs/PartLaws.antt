@@ -50,7 +50,7 @@ part-word l a n i h = getD-take n (drop a l) i 0 h ∙ getD-drop a l i 0
 
 -- the sizes of the parts, and where each begins
 abbrev sizeOf : ℕ → ℕ
-sizeOf k = getD (10 ∷ 5 ∷ 49 ∷ 177 ∷ 193 ∷ 80 ∷ 224 ∷ 192 ∷ 64 ∷ 224 ∷ []) k 0
+sizeOf k = getD (10 ∷ 5 ∷ 49 ∷ 177 ∷ 193 ∷ 66 ∷ 210 ∷ 178 ∷ 50 ∷ 210 ∷ []) k 0
 
 abbrev firstOf : ℕ → ℕ
 firstOf zero = 0
@@ -65,7 +65,7 @@ in-order j (suc k) h = go (decLt j k) (in-order j k)
     go (yes l) before = let r = before l in omega (arith, r)
     go (no l) before = let e : j ≡ k = omega arith in rw e (omega arith)
 
-module _ (l t : List ℕ) (z : length l ≡ 1218) (k : ℕ) (h : k < 10) (y : length t ≡ sizeOf k) where
+module _ (l t : List ℕ) (z : length l ≡ 1148) (k : ℕ) (h : k < 10) (y : length t ≡ sizeOf k) where
   -- a part of the words after part k is replaced
   part-after :
       (j : ℕ) → take (sizeOf j) (drop (firstOf j) (putMid (firstOf k) (sizeOf k) l t)) ≡ cond (eqb k j) t (take (sizeOf j) (drop (firstOf j) l))
@@ -97,7 +97,7 @@ module _ (l t : List ℕ) (z : length l ≡ 1218) (k : ℕ) (h : k < 10) (y : le
       }
 
 -- each by its name
-module _ (l t : List ℕ) (z : length l ≡ 1218) where
+module _ (l t : List ℕ) (z : length l ≡ 1148) where
   pub settings-back : length t ≡ 10 → monitorOf (putMid 0 10 l t) ≡ withSettings (monitorOf l) t
   settings-back = part-back l t z 0 (omega arith)
 
@@ -113,19 +113,19 @@ module _ (l t : List ℕ) (z : length l ≡ 1218) where
   pub sv-publishers-back : length t ≡ 193 → monitorOf (putMid 241 193 l t) ≡ withSvPublishers (monitorOf l) t
   sv-publishers-back = part-back l t z 4 (omega arith)
 
-  pub rate-buckets-back : length t ≡ 80 → monitorOf (putMid 434 80 l t) ≡ withRateBuckets (monitorOf l) t
+  pub rate-buckets-back : length t ≡ 66 → monitorOf (putMid 434 66 l t) ≡ withRateBuckets (monitorOf l) t
   rate-buckets-back = part-back l t z 5 (omega arith)
 
-  pub goose-seq-back : length t ≡ 224 → monitorOf (putMid 514 224 l t) ≡ withGooseSeq (monitorOf l) t
+  pub goose-seq-back : length t ≡ 210 → monitorOf (putMid 500 210 l t) ≡ withGooseSeq (monitorOf l) t
   goose-seq-back = part-back l t z 6 (omega arith)
 
-  pub sv-seq-back : length t ≡ 192 → monitorOf (putMid 738 192 l t) ≡ withSvSeq (monitorOf l) t
+  pub sv-seq-back : length t ≡ 178 → monitorOf (putMid 710 178 l t) ≡ withSvSeq (monitorOf l) t
   sv-seq-back = part-back l t z 7 (omega arith)
 
-  pub time-trackers-back : length t ≡ 64 → monitorOf (putMid 930 64 l t) ≡ withTimeTrackers (monitorOf l) t
+  pub time-trackers-back : length t ≡ 50 → monitorOf (putMid 888 50 l t) ≡ withTimeTrackers (monitorOf l) t
   time-trackers-back = part-back l t z 8 (omega arith)
 
-  pub cb-reservations-back : length t ≡ 224 → monitorOf (putMid 994 224 l t) ≡ withCbReservations (monitorOf l) t
+  pub cb-reservations-back : length t ≡ 210 → monitorOf (putMid 938 210 l t) ≡ withCbReservations (monitorOf l) t
   cb-reservations-back = part-back l t z 9 (omega arith)
 
 -- a check of a part that is lent, and comes back

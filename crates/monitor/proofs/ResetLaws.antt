@@ -25,32 +25,32 @@ unfolding zeroWords
 length-zero n = length-tabulate _ n
 
 module _ (l : List ℕ) {l′ : List ℕ} where
-  pub settings-zero : (length l ≡ 1218) × (l′ ≡ putMid 0 10 l (zeroWords 10)) → monitorOf l′ ≡ withSettings (monitorOf l) (zeroWords 10)
+  pub settings-zero : (length l ≡ 1148) × (l′ ≡ putMid 0 10 l (zeroWords 10)) → monitorOf l′ ≡ withSettings (monitorOf l) (zeroWords 10)
   settings-zero e = ap monitorOf (e .1) ∙ settings-back l (zeroWords 10) (e .0) (length-zero 10)
 
-  pub mms-rules-new : (length l ≡ 1218) × (l′ ≡ putMid 15 49 l (zeroWords 49)) → monitorOf l′ ≡ withMmsRules (monitorOf l) (zeroWords 49)
+  pub mms-rules-new : (length l ≡ 1148) × (l′ ≡ putMid 15 49 l (zeroWords 49)) → monitorOf l′ ≡ withMmsRules (monitorOf l) (zeroWords 49)
   mms-rules-new e = ap monitorOf (e .1) ∙ mms-rules-back l (zeroWords 49) (e .0) (length-zero 49)
 
-  pub goose-publishers-new : (length l ≡ 1218) × (l′ ≡ putMid 64 177 l (zeroWords 177)) → monitorOf l′ ≡ withGoosePublishers (monitorOf l) (zeroWords 177)
+  pub goose-publishers-new : (length l ≡ 1148) × (l′ ≡ putMid 64 177 l (zeroWords 177)) → monitorOf l′ ≡ withGoosePublishers (monitorOf l) (zeroWords 177)
   goose-publishers-new e = ap monitorOf (e .1) ∙ goose-publishers-back l (zeroWords 177) (e .0) (length-zero 177)
 
-  pub sv-publishers-new : (length l ≡ 1218) × (l′ ≡ putMid 241 193 l (zeroWords 193)) → monitorOf l′ ≡ withSvPublishers (monitorOf l) (zeroWords 193)
+  pub sv-publishers-new : (length l ≡ 1148) × (l′ ≡ putMid 241 193 l (zeroWords 193)) → monitorOf l′ ≡ withSvPublishers (monitorOf l) (zeroWords 193)
   sv-publishers-new e = ap monitorOf (e .1) ∙ sv-publishers-back l (zeroWords 193) (e .0) (length-zero 193)
 
-  pub rate-buckets-new : (length l ≡ 1218) × (l′ ≡ putMid 434 80 l (noEntries 80)) → monitorOf l′ ≡ withRateBuckets (monitorOf l) (noEntries 80)
-  rate-buckets-new e = ap monitorOf (e .1) ∙ rate-buckets-back l (noEntries 80) (e .0) (length-none 80)
+  pub rate-buckets-new : (length l ≡ 1148) × (l′ ≡ putMid 434 66 l (noEntries 66)) → monitorOf l′ ≡ withRateBuckets (monitorOf l) (noEntries 66)
+  rate-buckets-new e = ap monitorOf (e .1) ∙ rate-buckets-back l (noEntries 66) (e .0) (length-none 66)
 
-  pub goose-seq-new : (length l ≡ 1218) × (l′ ≡ putMid 514 224 l (noEntries 224)) → monitorOf l′ ≡ withGooseSeq (monitorOf l) (noEntries 224)
-  goose-seq-new e = ap monitorOf (e .1) ∙ goose-seq-back l (noEntries 224) (e .0) (length-none 224)
+  pub goose-seq-new : (length l ≡ 1148) × (l′ ≡ putMid 500 210 l (noEntries 210)) → monitorOf l′ ≡ withGooseSeq (monitorOf l) (noEntries 210)
+  goose-seq-new e = ap monitorOf (e .1) ∙ goose-seq-back l (noEntries 210) (e .0) (length-none 210)
 
-  pub sv-seq-new : (length l ≡ 1218) × (l′ ≡ putMid 738 192 l (noEntries 192)) → monitorOf l′ ≡ withSvSeq (monitorOf l) (noEntries 192)
-  sv-seq-new e = ap monitorOf (e .1) ∙ sv-seq-back l (noEntries 192) (e .0) (length-none 192)
+  pub sv-seq-new : (length l ≡ 1148) × (l′ ≡ putMid 710 178 l (noEntries 178)) → monitorOf l′ ≡ withSvSeq (monitorOf l) (noEntries 178)
+  sv-seq-new e = ap monitorOf (e .1) ∙ sv-seq-back l (noEntries 178) (e .0) (length-none 178)
 
-  pub time-trackers-new : (length l ≡ 1218) × (l′ ≡ putMid 930 64 l (noEntries 64)) → monitorOf l′ ≡ withTimeTrackers (monitorOf l) (noEntries 64)
-  time-trackers-new e = ap monitorOf (e .1) ∙ time-trackers-back l (noEntries 64) (e .0) (length-none 64)
+  pub time-trackers-new : (length l ≡ 1148) × (l′ ≡ putMid 888 50 l (noEntries 50)) → monitorOf l′ ≡ withTimeTrackers (monitorOf l) (noEntries 50)
+  time-trackers-new e = ap monitorOf (e .1) ∙ time-trackers-back l (noEntries 50) (e .0) (length-none 50)
 
-  pub cb-reservations-new : (length l ≡ 1218) × (l′ ≡ putMid 994 224 l (noEntries 224)) → monitorOf l′ ≡ withCbReservations (monitorOf l) (noEntries 224)
-  cb-reservations-new e = ap monitorOf (e .1) ∙ cb-reservations-back l (noEntries 224) (e .0) (length-none 224)
+  pub cb-reservations-new : (length l ≡ 1148) × (l′ ≡ putMid 938 210 l (noEntries 210)) → monitorOf l′ ≡ withCbReservations (monitorOf l) (noEntries 210)
+  cb-reservations-new e = ap monitorOf (e .1) ∙ cb-reservations-back l (noEntries 210) (e .0) (length-none 210)
 
 -- the settings of a new monitor stored, then all else reset
 pub made-new :

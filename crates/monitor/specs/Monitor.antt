@@ -1,4 +1,4 @@
--- The monitor as an array of 1218 words, and as the record of its parts, of which all definitions speak.
+-- The monitor as an array of 1148 words, and as the record of its parts, of which all definitions speak.
 use Prim.Native.Nat.{ℕ}
 use mathlib.Core.Bool.{cond}
 use mathlib.Core.List.{List, _++_}
@@ -29,11 +29,11 @@ monitorOf l =
       «mms_rules» = take 49 (drop 15 l);
       «goose_publishers» = take 177 (drop 64 l);
       «sv_publishers» = take 193 (drop 241 l);
-      «rate_buckets» = take 80 (drop 434 l);
-      «goose_seq» = take 224 (drop 514 l);
-      «sv_seq» = take 192 (drop 738 l);
-      «time_trackers» = take 64 (drop 930 l);
-      «cb_reservations» = take 224 (drop 994 l);
+      «rate_buckets» = take 66 (drop 434 l);
+      «goose_seq» = take 210 (drop 500 l);
+      «sv_seq» = take 178 (drop 710 l);
+      «time_trackers» = take 50 (drop 888 l);
+      «cb_reservations» = take 210 (drop 938 l);
     }
 
 -- the words of the parts
@@ -49,11 +49,11 @@ pub record Sized (m : Monitor) : Type 0 where
   pub «mms_rules» : length (m .«mms_rules») ≡ 49
   pub «goose_publishers» : length (m .«goose_publishers») ≡ 177
   pub «sv_publishers» : length (m .«sv_publishers») ≡ 193
-  pub «rate_buckets» : length (m .«rate_buckets») ≡ 80
-  pub «goose_seq» : length (m .«goose_seq») ≡ 224
-  pub «sv_seq» : length (m .«sv_seq») ≡ 192
-  pub «time_trackers» : length (m .«time_trackers») ≡ 64
-  pub «cb_reservations» : length (m .«cb_reservations») ≡ 224
+  pub «rate_buckets» : length (m .«rate_buckets») ≡ 66
+  pub «goose_seq» : length (m .«goose_seq») ≡ 210
+  pub «sv_seq» : length (m .«sv_seq») ≡ 178
+  pub «time_trackers» : length (m .«time_trackers») ≡ 50
+  pub «cb_reservations» : length (m .«cb_reservations») ≡ 210
 
 -- a monitor with one part replaced; the parts are numbered from 0 in their order
 abbrev pub withPart : ℕ → Monitor → List ℕ → Monitor

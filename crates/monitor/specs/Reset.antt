@@ -21,11 +21,11 @@ freshWith settings =
       «mms_rules» = zeroWords 49;
       «goose_publishers» = zeroWords 177;
       «sv_publishers» = zeroWords 193;
-      «rate_buckets» = noEntries 80;
-      «goose_seq» = noEntries 224;
-      «sv_seq» = noEntries 192;
-      «time_trackers» = noEntries 64;
-      «cb_reservations» = noEntries 224;
+      «rate_buckets» = noEntries 66;
+      «goose_seq» = noEntries 210;
+      «sv_seq» = noEntries 178;
+      «time_trackers» = noEntries 50;
+      «cb_reservations» = noEntries 210;
     }
 
 -- a new monitor, strict or not

@@ -1,4 +1,4 @@
-// The parts of the monitor in one array of 1218 words: of each check and add call `_lent` lends its part from a slice, over whose
+// The parts of the monitor in one array of 1148 words: of each check and add call `_lent` lends its part from a slice, over whose
 // words the laws are, and `_on` takes the array.
 ghost use mathlib.Core.Path.{_≡_};
 ghost use lib.ListN.{length, getD};
@@ -35,13 +35,13 @@ use tables::order::no_entries;
 
 // Checks a frame's count.
 fn check_sv_seq_lent(m: &mut [u64], svid: &[u64; 10], smp_cnt: u16) -> SvSeqOutcome
-    requires { ⌜ length (now m) ≡ 1218 ⌝ }
+    requires { ⌜ length (now m) ≡ 1148 ⌝ }
     ensures { λ r. ⌜ record { monitor = monitorOf (now (m .exit)); answer = r } ≡ svSeqOn (monitorOf (now (m .entry))) (now (svid .entry)) «smp_cnt» ⌝ }
 {
-    check_sv_seq_in(&mut m[738..930], svid, smp_cnt)
+    check_sv_seq_in(&mut m[710..888], svid, smp_cnt)
 }
 
-pub fn check_sv_seq_on(m: &mut [u64; 1218], svid: &[u64; 10], smp_cnt: u16) -> SvSeqOutcome
+pub fn check_sv_seq_on(m: &mut [u64; 1148], svid: &[u64; 10], smp_cnt: u16) -> SvSeqOutcome
     ensures { λ r. ⌜ record { monitor = monitorOf (now (m .exit)); answer = r } ≡ svSeqOn (monitorOf (now (m .entry))) (now (svid .entry)) «smp_cnt» ⌝ }
 {
     check_sv_seq_lent(m, svid, smp_cnt)
@@ -55,15 +55,15 @@ fn check_goose_seq_lent(
     sq_num: u32,
     now_us: u64,
 ) -> bool
-    requires { ⌜ length (now m) ≡ 1218 ⌝ }
+    requires { ⌜ length (now m) ≡ 1148 ⌝ }
     ensures { λ r. ⌜ record { monitor = monitorOf (now (m .exit)); answer = r }
         ≡ gooseSeqOn (monitorOf (now (m .entry))) (now (key .entry)) ((«st_num», «sq_num»), «now_us») ⌝ }
 {
-    check_goose_seq_in(&mut m[514..738], key, st_num, sq_num, now_us)
+    check_goose_seq_in(&mut m[500..710], key, st_num, sq_num, now_us)
 }
 
 pub fn check_goose_seq_on(
-    m: &mut [u64; 1218],
+    m: &mut [u64; 1148],
     key: &[u64; 10],
     st_num: u32,
     sq_num: u32,
@@ -83,14 +83,14 @@ fn check_time_field_lent(
     seconds: u32,
     fraction: u32,
 ) -> bool
-    requires { ⌜ length (now m) ≡ 1218 ⌝ }
+    requires { ⌜ length (now m) ≡ 1148 ⌝ }
     ensures { λ r. ⌜ record { monitor = monitorOf (now (m .exit)); answer = r } ≡ timeFieldOn (monitorOf (now (m .entry))) limit address (seconds, fraction) ⌝ }
 {
-    check_time_field_in(&mut m[930..994], limit, address, seconds, fraction)
+    check_time_field_in(&mut m[888..938], limit, address, seconds, fraction)
 }
 
 pub fn check_time_field_on(
-    m: &mut [u64; 1218],
+    m: &mut [u64; 1148],
     limit: u32,
     address: u64,
     seconds: u32,
@@ -103,13 +103,13 @@ pub fn check_time_field_on(
 
 // Takes a request into its bucket.
 fn rate_check_lent(m: &mut [u64], key: u32, max_rate: u16, now_us: u64) -> bool
-    requires { ⌜ length (now m) ≡ 1218 ⌝ }
+    requires { ⌜ length (now m) ≡ 1148 ⌝ }
     ensures { λ r. ⌜ record { monitor = monitorOf (now (m .exit)); answer = r } ≡ rateOn (monitorOf (now (m .entry))) key «max_rate» «now_us» ⌝ }
 {
-    rate_check_in(&mut m[434..514], key, max_rate, now_us)
+    rate_check_in(&mut m[434..500], key, max_rate, now_us)
 }
 
-pub fn rate_check_on(m: &mut [u64; 1218], key: u32, max_rate: u16, now_us: u64) -> bool
+pub fn rate_check_on(m: &mut [u64; 1148], key: u32, max_rate: u16, now_us: u64) -> bool
     ensures { λ r. ⌜ record { monitor = monitorOf (now (m .exit)); answer = r } ≡ rateOn (monitorOf (now (m .entry))) key «max_rate» «now_us» ⌝ }
 {
     rate_check_lent(m, key, max_rate, now_us)
@@ -117,13 +117,13 @@ pub fn rate_check_on(m: &mut [u64; 1218], key: u32, max_rate: u16, now_us: u64) 
 
 // The use of a control block.
 fn check_cb_lent(m: &mut [u64], key: &[u64; 10], address: u64) -> bool
-    requires { ⌜ length (now m) ≡ 1218 ⌝ }
+    requires { ⌜ length (now m) ≡ 1148 ⌝ }
     ensures { λ r. ⌜ record { monitor = monitorOf (now (m .exit)); answer = r } ≡ cbOn (monitorOf (now (m .entry))) (now (key .entry)) address ⌝ }
 {
-    check_cb_in(&mut m[994..1218], key, address)
+    check_cb_in(&mut m[938..1148], key, address)
 }
 
-pub fn check_cb_on(m: &mut [u64; 1218], key: &[u64; 10], address: u64) -> bool
+pub fn check_cb_on(m: &mut [u64; 1148], key: &[u64; 10], address: u64) -> bool
     ensures { λ r. ⌜ record { monitor = monitorOf (now (m .exit)); answer = r } ≡ cbOn (monitorOf (now (m .entry))) (now (key .entry)) address ⌝ }
 {
     check_cb_lent(m, key, address)
@@ -131,13 +131,13 @@ pub fn check_cb_on(m: &mut [u64; 1218], key: &[u64; 10], address: u64) -> bool
 
 // Whether no control block is reserved.
 fn no_reservations_lent(m: &[u64]) -> bool
-    requires { ⌜ length (now m) ≡ 1218 ⌝ }
+    requires { ⌜ length (now m) ≡ 1148 ⌝ }
     ensures { λ r. ⌜ r ≡ allFree (monitorOf (now (m .entry)) .«cb_reservations») ⌝ }
 {
-    no_entries(&m[994..1218])
+    no_entries(&m[938..1148])
 }
 
-pub fn no_reservations_on(m: &[u64; 1218]) -> bool
+pub fn no_reservations_on(m: &[u64; 1148]) -> bool
     ensures { λ r. ⌜ r ≡ allFree (monitorOf (now (m .entry)) .«cb_reservations») ⌝ }
 {
     no_reservations_lent(m)
@@ -145,13 +145,13 @@ pub fn no_reservations_on(m: &[u64; 1218]) -> bool
 
 // A SelectControl.
 fn reserve_cb_lent(m: &mut [u64], key: &[u64; 10], client: u32) -> bool
-    requires { ⌜ length (now m) ≡ 1218 ⌝ }
+    requires { ⌜ length (now m) ≡ 1148 ⌝ }
     ensures { λ r. ⌜ record { monitor = monitorOf (now (m .exit)); answer = r } ≡ reservedOn (monitorOf (now (m .entry))) (now (key .entry)) client ⌝ }
 {
-    reserve_cb_in(&mut m[994..1218], key, client)
+    reserve_cb_in(&mut m[938..1148], key, client)
 }
 
-pub fn reserve_cb_on(m: &mut [u64; 1218], key: &[u64; 10], client: u32) -> bool
+pub fn reserve_cb_on(m: &mut [u64; 1148], key: &[u64; 10], client: u32) -> bool
     ensures { λ r. ⌜ record { monitor = monitorOf (now (m .exit)); answer = r } ≡ reservedOn (monitorOf (now (m .entry))) (now (key .entry)) client ⌝ }
 {
     reserve_cb_lent(m, key, client)
@@ -159,13 +159,13 @@ pub fn reserve_cb_on(m: &mut [u64; 1218], key: &[u64; 10], client: u32) -> bool
 
 // A Cancel or Conclude.
 fn release_cb_lent(m: &mut [u64], key: &[u64; 10], client: u32)
-    requires { ⌜ length (now m) ≡ 1218 ⌝ }
+    requires { ⌜ length (now m) ≡ 1148 ⌝ }
     ensures { λ _. ⌜ monitorOf (now (m .exit)) ≡ releasedOn (monitorOf (now (m .entry))) (now (key .entry)) client ⌝ }
 {
-    release_cb_in(&mut m[994..1218], key, client);
+    release_cb_in(&mut m[938..1148], key, client);
 }
 
-pub fn release_cb_on(m: &mut [u64; 1218], key: &[u64; 10], client: u32)
+pub fn release_cb_on(m: &mut [u64; 1148], key: &[u64; 10], client: u32)
     ensures { λ _. ⌜ monitorOf (now (m .exit)) ≡ releasedOn (monitorOf (now (m .entry))) (now (key .entry)) client ⌝ }
 {
     release_cb_lent(m, key, client);
@@ -173,13 +173,13 @@ pub fn release_cb_on(m: &mut [u64; 1218], key: &[u64; 10], client: u32)
 
 // Adds an MMS rule.
 fn add_mms_rule_lent(m: &mut [u64], mask: u16, read_only: bool, rate: u16) -> Added
-    requires { ⌜ length (now m) ≡ 1218 ⌝ }
+    requires { ⌜ length (now m) ≡ 1148 ⌝ }
     ensures { λ r. ⌜ record { monitor = monitorOf (now (m .exit)); answer = r } ≡ mmsAddedOn (monitorOf (now (m .entry))) mask «read_only» rate ⌝ }
 {
     add_mms_rule_in(&mut m[15..64], mask, read_only, rate)
 }
 
-pub fn add_mms_rule_on(m: &mut [u64; 1218], mask: u16, read_only: bool, rate: u16) -> Added
+pub fn add_mms_rule_on(m: &mut [u64; 1148], mask: u16, read_only: bool, rate: u16) -> Added
     ensures { λ r. ⌜ record { monitor = monitorOf (now (m .exit)); answer = r } ≡ mmsAddedOn (monitorOf (now (m .entry))) mask «read_only» rate ⌝ }
 {
     add_mms_rule_lent(m, mask, read_only, rate)
@@ -187,13 +187,13 @@ pub fn add_mms_rule_on(m: &mut [u64; 1218], mask: u16, read_only: bool, rate: u1
 
 // Adds a GOOSE publisher.
 fn add_goose_publisher_lent(m: &mut [u64], address: u64, name: &[u8]) -> Added
-    requires { ⌜ length (now m) ≡ 1218 ⌝ }
+    requires { ⌜ length (now m) ≡ 1148 ⌝ }
     ensures { λ r. ⌜ record { monitor = monitorOf (now (m .exit)); answer = r } ≡ gooseAddedOn (monitorOf (now (m .entry))) address (now (name .entry)) ⌝ }
 {
     add_goose_publisher_in(&mut m[64..241], address, name)
 }
 
-pub fn add_goose_publisher_on(m: &mut [u64; 1218], address: u64, name: &[u8]) -> Added
+pub fn add_goose_publisher_on(m: &mut [u64; 1148], address: u64, name: &[u8]) -> Added
     ensures { λ r. ⌜ record { monitor = monitorOf (now (m .exit)); answer = r } ≡ gooseAddedOn (monitorOf (now (m .entry))) address (now (name .entry)) ⌝ }
 {
     add_goose_publisher_lent(m, address, name)
@@ -201,13 +201,13 @@ pub fn add_goose_publisher_on(m: &mut [u64; 1218], address: u64, name: &[u8]) ->
 
 // Adds an SV publisher.
 fn add_sv_publisher_lent(m: &mut [u64], address: u64, svid: &[u8], rate: u16) -> Added
-    requires { ⌜ length (now m) ≡ 1218 ⌝ }
+    requires { ⌜ length (now m) ≡ 1148 ⌝ }
     ensures { λ r. ⌜ record { monitor = monitorOf (now (m .exit)); answer = r } ≡ svAddedOn (monitorOf (now (m .entry))) address (now (svid .entry)) rate ⌝ }
 {
     add_sv_publisher_in(&mut m[241..434], address, svid, rate)
 }
 
-pub fn add_sv_publisher_on(m: &mut [u64; 1218], address: u64, svid: &[u8], rate: u16) -> Added
+pub fn add_sv_publisher_on(m: &mut [u64; 1148], address: u64, svid: &[u8], rate: u16) -> Added
     ensures { λ r. ⌜ record { monitor = monitorOf (now (m .exit)); answer = r } ≡ svAddedOn (monitorOf (now (m .entry))) address (now (svid .entry)) rate ⌝ }
 {
     add_sv_publisher_lent(m, address, svid, rate)
@@ -215,13 +215,13 @@ pub fn add_sv_publisher_on(m: &mut [u64; 1218], address: u64, svid: &[u8], rate:
 
 // The first MMS rule that applies.
 fn first_rule_lent(m: &[u64], raw: u8) -> Found
-    requires { ⌜ length (now m) ≡ 1218 ⌝ }
+    requires { ⌜ length (now m) ≡ 1148 ⌝ }
     ensures { λ r. ⌜ r ≡ firstRule (monitorOf (now (m .entry)) .«mms_rules») raw ⌝ }
 {
     first_rule(&m[15..64], raw)
 }
 
-pub fn first_rule_on(m: &[u64; 1218], raw: u8) -> Found
+pub fn first_rule_on(m: &[u64; 1148], raw: u8) -> Found
     ensures { λ r. ⌜ r ≡ firstRule (monitorOf (now (m .entry)) .«mms_rules») raw ⌝ }
 {
     first_rule_lent(m, raw)
@@ -229,13 +229,13 @@ pub fn first_rule_on(m: &[u64; 1218], raw: u8) -> Found
 
 // The first GOOSE publisher that fits.
 fn goose_publisher_lent(m: &[u64], address: u64, name: &[u64; 10]) -> Found
-    requires { ⌜ length (now m) ≡ 1218 ⌝ }
+    requires { ⌜ length (now m) ≡ 1148 ⌝ }
     ensures { λ r. ⌜ r ≡ goosePublisher (monitorOf (now (m .entry)) .«goose_publishers») address (now (name .entry)) ⌝ }
 {
     goose_publisher(&m[64..241], address, name)
 }
 
-pub fn goose_publisher_on(m: &[u64; 1218], address: u64, name: &[u64; 10]) -> Found
+pub fn goose_publisher_on(m: &[u64; 1148], address: u64, name: &[u64; 10]) -> Found
     ensures { λ r. ⌜ r ≡ goosePublisher (monitorOf (now (m .entry)) .«goose_publishers») address (now (name .entry)) ⌝ }
 {
     goose_publisher_lent(m, address, name)
@@ -243,13 +243,13 @@ pub fn goose_publisher_on(m: &[u64; 1218], address: u64, name: &[u64; 10]) -> Fo
 
 // How an svID and an address match the SV publishers.
 fn sv_publisher_lent(m: &[u64], address: u64, svid: &[u64; 10]) -> PublisherMatch
-    requires { ⌜ length (now m) ≡ 1218 ⌝ }
+    requires { ⌜ length (now m) ≡ 1148 ⌝ }
     ensures { λ r. ⌜ r ≡ svPublisher (monitorOf (now (m .entry)) .«sv_publishers») address (now (svid .entry)) ⌝ }
 {
     sv_publisher(&m[241..434], address, svid)
 }
 
-pub fn sv_publisher_on(m: &[u64; 1218], address: u64, svid: &[u64; 10]) -> PublisherMatch
+pub fn sv_publisher_on(m: &[u64; 1148], address: u64, svid: &[u64; 10]) -> PublisherMatch
     ensures { λ r. ⌜ r ≡ svPublisher (monitorOf (now (m .entry)) .«sv_publishers») address (now (svid .entry)) ⌝ }
 {
     sv_publisher_lent(m, address, svid)
@@ -264,14 +264,14 @@ fn retx_anomaly_lent(
     sq_num: u32,
     now_us: u64,
 ) -> bool
-    requires { ⌜ length (now m) ≡ 1218 ⌝ }
+    requires { ⌜ length (now m) ≡ 1148 ⌝ }
     ensures { λ r. ⌜ r ≡ retxChecked schedule (monitorOf (now (m .entry)) .«goose_seq») (now (key .entry)) ((«st_num», «sq_num»), «now_us») ⌝ }
 {
-    retx_anomaly(&m[514..738], key, schedule, st_num, sq_num, now_us)
+    retx_anomaly(&m[500..710], key, schedule, st_num, sq_num, now_us)
 }
 
 pub fn retx_anomaly_on(
-    m: &[u64; 1218],
+    m: &[u64; 1148],
     key: &[u64; 10],
     schedule: RetxSchedule,
     st_num: u32,
@@ -284,19 +284,19 @@ pub fn retx_anomaly_on(
 }
 
 // How many MMS rules, GOOSE publishers and SV publishers there are.
-pub fn mms_rule_count_on(m: &[u64; 1218]) -> u64
+pub fn mms_rule_count_on(m: &[u64; 1148]) -> u64
     ensures { λ r. ⌜ r ≡ getD (monitorOf (now (m .entry)) .«mms_rules») 48 0 ⌝ }
 {
     m[63]
 }
 
-pub fn goose_publisher_count_on(m: &[u64; 1218]) -> u64
+pub fn goose_publisher_count_on(m: &[u64; 1148]) -> u64
     ensures { λ r. ⌜ r ≡ getD (monitorOf (now (m .entry)) .«goose_publishers») 176 0 ⌝ }
 {
     m[240]
 }
 
-pub fn sv_publisher_count_on(m: &[u64; 1218]) -> u64
+pub fn sv_publisher_count_on(m: &[u64; 1148]) -> u64
     ensures { λ r. ⌜ r ≡ getD (monitorOf (now (m .entry)) .«sv_publishers») 192 0 ⌝ }
 {
     m[433]
@@ -304,13 +304,13 @@ pub fn sv_publisher_count_on(m: &[u64; 1218]) -> u64
 
 // Whether an MMS rule is read-only.
 fn rule_read_only_lent(m: &[u64], place: usize) -> bool
-    requires { ⌜ length (now m) ≡ 1218 ⌝ }
+    requires { ⌜ length (now m) ≡ 1148 ⌝ }
     ensures { λ r. ⌜ r ≡ ruleReadOnly (monitorOf (now (m .entry)) .«mms_rules») place ⌝ }
 {
     rule_read_only(&m[15..64], place)
 }
 
-pub fn rule_read_only_on(m: &[u64; 1218], place: usize) -> bool
+pub fn rule_read_only_on(m: &[u64; 1148], place: usize) -> bool
     ensures { λ r. ⌜ r ≡ ruleReadOnly (monitorOf (now (m .entry)) .«mms_rules») place ⌝ }
 {
     rule_read_only_lent(m, place)
@@ -318,13 +318,13 @@ pub fn rule_read_only_on(m: &[u64; 1218], place: usize) -> bool
 
 // Its rate.
 fn rule_rate_lent(m: &[u64], place: usize) -> u16
-    requires { ⌜ length (now m) ≡ 1218 ⌝ }
+    requires { ⌜ length (now m) ≡ 1148 ⌝ }
     ensures { λ r. ⌜ r ≡ ruleRate (monitorOf (now (m .entry)) .«mms_rules») place ⌝ }
 {
     rule_rate(&m[15..64], place)
 }
 
-pub fn rule_rate_on(m: &[u64; 1218], place: usize) -> u16
+pub fn rule_rate_on(m: &[u64; 1148], place: usize) -> u16
     ensures { λ r. ⌜ r ≡ ruleRate (monitorOf (now (m .entry)) .«mms_rules») place ⌝ }
 {
     rule_rate_lent(m, place)
@@ -332,13 +332,13 @@ pub fn rule_rate_on(m: &[u64; 1218], place: usize) -> u16
 
 // The rate of an SV publisher.
 fn publisher_rate_lent(m: &[u64], place: usize) -> u16
-    requires { ⌜ length (now m) ≡ 1218 ⌝ }
+    requires { ⌜ length (now m) ≡ 1148 ⌝ }
     ensures { λ r. ⌜ r ≡ publisherRate (monitorOf (now (m .entry)) .«sv_publishers») place ⌝ }
 {
     publisher_rate(&m[241..434], place)
 }
 
-pub fn publisher_rate_on(m: &[u64; 1218], place: usize) -> u16
+pub fn publisher_rate_on(m: &[u64; 1148], place: usize) -> u16
     ensures { λ r. ⌜ r ≡ publisherRate (monitorOf (now (m .entry)) .«sv_publishers») place ⌝ }
 {
     publisher_rate_lent(m, place)

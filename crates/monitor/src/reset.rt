@@ -27,13 +27,13 @@ fn zero_totals(t: &mut [u64])
 }
 
 fn new_totals_lent(m: &mut [u64])
-    requires { ⌜ length (now m) ≡ 1218 ⌝ }
+    requires { ⌜ length (now m) ≡ 1148 ⌝ }
     ensures { λ _. ⌜ monitorOf (now (m .exit)) ≡ withTotals (monitorOf (now (m .entry))) newTotals ⌝ }
 {
     zero_totals(&mut m[10..15]);
 }
 
-fn new_totals(m: &mut [u64; 1218])
+fn new_totals(m: &mut [u64; 1148])
     ensures { λ _. ⌜ monitorOf (now (m .exit)) ≡ withTotals (monitorOf (now (m .entry))) newTotals ⌝ }
 {
     new_totals_lent(m);
@@ -48,9 +48,9 @@ fn zero_part_lent(m: &mut [u64], start: usize, end: usize)
 }
 
 // The contract says the length too, which a reference to an array does not tell a caller's proof.
-fn zero_part(m: &mut [u64; 1218], start: usize, end: usize)
-    requires { ⌜ (start ≤ end) × (end ≤ 1218) ⌝ }
-    ensures { λ _. ⌜ (length (now (m .entry)) ≡ 1218)
+fn zero_part(m: &mut [u64; 1148], start: usize, end: usize)
+    requires { ⌜ (start ≤ end) × (end ≤ 1148) ⌝ }
+    ensures { λ _. ⌜ (length (now (m .entry)) ≡ 1148)
         × (now (m .exit) ≡ putMid start (end - start) (now (m .entry)) (zeroWords (end - start))) ⌝ }
 {
     zero_part_lent(m, start, end);
@@ -64,31 +64,31 @@ fn clear_part_lent(m: &mut [u64], start: usize, end: usize)
     clear(&mut m[start..end]);
 }
 
-fn clear_part(m: &mut [u64; 1218], start: usize, end: usize)
-    requires { ⌜ (start ≤ end) × (end ≤ 1218) ⌝ }
-    ensures { λ _. ⌜ (length (now (m .entry)) ≡ 1218)
+fn clear_part(m: &mut [u64; 1148], start: usize, end: usize)
+    requires { ⌜ (start ≤ end) × (end ≤ 1148) ⌝ }
+    ensures { λ _. ⌜ (length (now (m .entry)) ≡ 1148)
         × (now (m .exit) ≡ putMid start (end - start) (now (m .entry)) (noEntries (end - start))) ⌝ }
 {
     clear_part_lent(m, start, end);
 }
 
 // As new but for the settings: rules, tables, reservations and totals are gone.
-pub fn reset_on(m: &mut [u64; 1218])
+pub fn reset_on(m: &mut [u64; 1148])
     ensures { λ _. ⌜ monitorOf (now (m .exit)) ≡ resetMonitor (monitorOf (now (m .entry))) ⌝ }
 {
     new_totals(m);
     zero_part(m, 15, 64);
     zero_part(m, 64, 241);
     zero_part(m, 241, 434);
-    clear_part(m, 434, 514);
-    clear_part(m, 514, 738);
-    clear_part(m, 738, 930);
-    clear_part(m, 930, 994);
-    clear_part(m, 994, 1218);
+    clear_part(m, 434, 500);
+    clear_part(m, 500, 710);
+    clear_part(m, 710, 888);
+    clear_part(m, 888, 938);
+    clear_part(m, 938, 1148);
 }
 
 // A new monitor, strict or not, whatever stood there: nothing limited and nothing blocked; a schedule that is not enforced.
-pub fn new_on(m: &mut [u64; 1218], strict: bool)
+pub fn new_on(m: &mut [u64; 1148], strict: bool)
     ensures { λ _. ⌜ monitorOf (now (m .exit)) ≡ newMonitor strict ⌝ }
 {
     zero_part(m, 0, 10);

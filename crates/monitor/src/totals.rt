@@ -23,7 +23,7 @@ pub const TOTAL_ALERTS: usize = 4;
 const TOTALS: usize = 10;
 
 // One of the totals.
-pub fn total_on(m: &[u64; 1218], place: usize) -> u64
+pub fn total_on(m: &[u64; 1148], place: usize) -> u64
     requires { ⌜ place < 5 ⌝ }
     ensures { λ r. ⌜ r ≡ total (monitorOf (now (m .entry))) place ⌝ }
 {
@@ -31,7 +31,7 @@ pub fn total_on(m: &[u64; 1218], place: usize) -> u64
 }
 
 // The alerts' counters.
-pub fn alert_counters_on(m: &[u64; 1218]) -> AlertCounters
+pub fn alert_counters_on(m: &[u64; 1148]) -> AlertCounters
     ensures { λ r. ⌜ r ≡ alertCounters (monitorOf (now (m .entry))) ⌝ }
 {
     AlertCounters {
@@ -49,14 +49,14 @@ fn count_in(t: &mut [u64], place: usize)
 }
 
 fn count_frame_lent(m: &mut [u64], place: usize)
-    requires { ⌜ (length (now m) ≡ 1218) × (place < 5) ⌝ }
+    requires { ⌜ (length (now m) ≡ 1148) × (place < 5) ⌝ }
     ensures { λ _. ⌜ monitorOf (now (m .exit)) ≡ frameCounted (monitorOf (now (m .entry))) place ⌝ }
 {
     count_in(&mut m[10..15], place);
 }
 
 // Counts a frame.
-pub fn count_frame_on(m: &mut [u64; 1218], place: usize)
+pub fn count_frame_on(m: &mut [u64; 1148], place: usize)
     requires { ⌜ place < 5 ⌝ }
     ensures { λ _. ⌜ monitorOf (now (m .exit)) ≡ frameCounted (monitorOf (now (m .entry))) place ⌝ }
 {
@@ -73,13 +73,13 @@ fn store_counters(t: &mut [u64], counters: AlertCounters)
 }
 
 fn set_alert_counters_lent(m: &mut [u64], counters: AlertCounters)
-    requires { ⌜ length (now m) ≡ 1218 ⌝ }
+    requires { ⌜ length (now m) ≡ 1148 ⌝ }
     ensures { λ _. ⌜ monitorOf (now (m .exit)) ≡ withAlerts (monitorOf (now (m .entry))) counters ⌝ }
 {
     store_counters(&mut m[10..15], counters);
 }
 
-pub fn set_alert_counters_on(m: &mut [u64; 1218], counters: AlertCounters)
+pub fn set_alert_counters_on(m: &mut [u64; 1148], counters: AlertCounters)
     ensures { λ _. ⌜ monitorOf (now (m .exit)) ≡ withAlerts (monitorOf (now (m .entry))) counters ⌝ }
 {
     set_alert_counters_lent(m, counters);

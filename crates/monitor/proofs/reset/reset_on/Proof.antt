@@ -26,11 +26,11 @@ returns c =
     let e2 = mms-rules-new (p1 .new-totals .last .0) (p2 .zero-part .ensures) ∙ ap (λ (m : Monitor). withMmsRules m (zeroWords 49)) e1 in
     let e3 = goose-publishers-new (p2 .zero-part .last .0) (p3 .zero-part2 .ensures) ∙ ap (λ (m : Monitor). withGoosePublishers m (zeroWords 177)) e2 in
     let e4 = sv-publishers-new (p3 .zero-part2 .last .0) (p4 .zero-part3 .ensures) ∙ ap (λ (m : Monitor). withSvPublishers m (zeroWords 193)) e3 in
-    let e5 = rate-buckets-new (p4 .zero-part3 .last .0) (p5 .clear-part .ensures) ∙ ap (λ (m : Monitor). withRateBuckets m (noEntries 80)) e4 in
-    let e6 = goose-seq-new (p5 .clear-part .last .0) (p6 .clear-part2 .ensures) ∙ ap (λ (m : Monitor). withGooseSeq m (noEntries 224)) e5 in
-    let e7 = sv-seq-new (p6 .clear-part2 .last .0) (p7 .clear-part3 .ensures) ∙ ap (λ (m : Monitor). withSvSeq m (noEntries 192)) e6 in
-    let e8 = time-trackers-new (p7 .clear-part3 .last .0) (p8 .clear-part4 .ensures) ∙ ap (λ (m : Monitor). withTimeTrackers m (noEntries 64)) e7 in
-    cb-reservations-new (p8 .clear-part4 .last .0) (c .clear-part5 .ensures) ∙ ap (λ (m : Monitor). withCbReservations m (noEntries 224)) e8
+    let e5 = rate-buckets-new (p4 .zero-part3 .last .0) (p5 .clear-part .ensures) ∙ ap (λ (m : Monitor). withRateBuckets m (noEntries 66)) e4 in
+    let e6 = goose-seq-new (p5 .clear-part .last .0) (p6 .clear-part2 .ensures) ∙ ap (λ (m : Monitor). withGooseSeq m (noEntries 210)) e5 in
+    let e7 = sv-seq-new (p6 .clear-part2 .last .0) (p7 .clear-part3 .ensures) ∙ ap (λ (m : Monitor). withSvSeq m (noEntries 178)) e6 in
+    let e8 = time-trackers-new (p7 .clear-part3 .last .0) (p8 .clear-part4 .ensures) ∙ ap (λ (m : Monitor). withTimeTrackers m (noEntries 50)) e7 in
+    cb-reservations-new (p8 .clear-part4 .last .0) (c .clear-part5 .ensures) ∙ ap (λ (m : Monitor). withCbReservations m (noEntries 210)) e8
 
 pub reset-on-spec : {M : Type 1} → statement M
 reset-on-spec =
