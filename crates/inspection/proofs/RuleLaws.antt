@@ -76,10 +76,10 @@ module _ (rules : List ℕ) where
   unfolding gooseAdded withGoosePublisher
   goose-count address name =
       let i = ruleCount (getD rules 176 0) in
-      counts-added rules (keyStored (wordSet rules 0 i address) i (plainKey name)) 176 (length name)
+      counts-added rules (keyStored 16 (wordSet rules 0 i address) i (plainKey name)) 176 (length name)
 
   pub sv-count : (address : ℕ) (svid : List ℕ) (rate : ℕ) → getD rules 192 0 ≤ 16 → getD (svAdded rules address svid rate .rules) 192 0 ≤ 16
   unfolding svAdded withSvPublisher
   sv-count address svid rate =
       let i = ruleCount (getD rules 192 0) in
-      counts-added rules (wordSet (keyStored (wordSet rules 0 i address) i (plainKey svid)) 176 i rate) 192 (length svid)
+      counts-added rules (wordSet (keyStored 16 (wordSet rules 0 i address) i (plainKey svid)) 176 i rate) 192 (length svid)

@@ -48,11 +48,11 @@ module _ (t : List ℕ) where
   unfolding wordSet
   word-long column slot v = cond-holds (AsLong t) (ltb slot 16) (length-set t (column + slot) v) refl
 
-  key-long : (slot : ℕ) (key : List ℕ) → AsLong t (keyStored t slot key)
+  key-long : (start slot : ℕ) (key : List ℕ) → AsLong t (keyStored start t slot key)
   unfolding keyStored
-  key-long slot key =
+  key-long start slot key =
       cond-holds (AsLong t) (ltb slot 16)
-      (length-overwritten (set (set t (16 + slot) (getD key 0 0)) (32 + slot) (getD key 1 0)) _ (48 + slot * 8) 8 ∙ simp length-set refl)
+      (length-overwritten (set (set t (start + slot) (getD key 0 0)) (start + 16 + slot) (getD key 1 0)) _ (start + 32 + slot * 8) 8 ∙ simp length-set refl)
       refl
 
   used-long : (slot : ℕ) → AsLong t (usedSlot t slot)
@@ -80,26 +80,26 @@ module _ {K W I : Type 0} (keys : KeyColumns K) (encoding : Encoding W) (stored-
 module _ (t : List ℕ) where
   pub sv-long : (svid : List ℕ) (n : ℕ) → AsLong t (svChecked t svid n .table)
   unfolding svChecked
-  sv-long svid n = stepped-long named oneNumber key-long (λ i. i) keptCount t svid n
+  sv-long svid n = stepped-long named oneNumber (λ u. key-long u 2) (λ i. i) keptCount t svid n
 
   pub goose-long : (key : List ℕ) (new : (ℕ × ℕ) × ℕ) → AsLong t (gooseChecked t key new .table)
   unfolding gooseChecked
-  goose-long key new = stepped-long named threeNumbers key-long (λ i. i) keptNumbers t key new
+  goose-long key new = stepped-long named threeNumbers (λ u. key-long u 2) (λ i. i) keptNumbers t key new
 
   pub time-long : (limit address : ℕ) (pair : ℕ × ℕ) → AsLong t (timeChecked t limit address pair .table)
   unfolding timeChecked
   time-long limit address pair =
       cond-holds (λ (c : TimeChecked). AsLong t (c .table)) (hasClock pair)
-      (stepped-long numbered twoNumbers (λ u slot k. word-long u 16 slot k) (λ i. i) (λ kept i. i) t address pair) refl
+      (stepped-long numbered twoNumbers (λ u slot k. word-long u 2 slot k) (λ i. i) (λ kept i. i) t address pair) refl
 
   pub rate-long : (key rate time : ℕ) → AsLong t (rateChecked t key rate time .table)
   unfolding rateChecked
-  rate-long key rate time = stepped-long numbered threeNumbers (λ u slot k. word-long u 16 slot k) newBucket nextBucket t key (rate, time)
+  rate-long key rate time = stepped-long numbered threeNumbers (λ u slot k. word-long u 2 slot k) newBucket nextBucket t key (rate, time)
 
   bound-long : (address : ℕ) (f : Found) → AsLong t (boundBy t address f .table)
   unfolding boundAt
   bound-long address Nothing = refl
-  bound-long address (At i) = cond-holds (λ (c : CbChecked). AsLong t (c .table)) (eqb (wordOf t 192 i) 0) (simp word-long refl) refl
+  bound-long address (At i) = cond-holds (λ (c : CbChecked). AsLong t (c .table)) (eqb (wordOf t 178 i) 0) (simp word-long refl) refl
 
   pub cb-long : (key : List ℕ) (address : ℕ) → AsLong t (cbChecked t key address .table)
   unfolding cbChecked
@@ -166,8 +166,8 @@ sized-kept {m} {m′} e z =
     same : (k : ℕ) → getD (sizes m′) k 0 ≡ getD (sizes m) k 0
     same k = ap (λ (l : List ℕ). getD l k 0) e
 
--- the parts of 1218 words have their sizes
-pub words-sized : (l : List ℕ) → length l ≡ 1218 → Sized (monitorOf l)
+-- the parts of 1148 words have their sizes
+pub words-sized : (l : List ℕ) → length l ≡ 1148 → Sized (monitorOf l)
 unfolding monitorOf
 words-sized l z =
     record {
@@ -176,11 +176,11 @@ words-sized l z =
       «mms_rules» = part-length l 15 49 (omega arith);
       «goose_publishers» = part-length l 64 177 (omega arith);
       «sv_publishers» = part-length l 241 193 (omega arith);
-      «rate_buckets» = part-length l 434 80 (omega arith);
-      «goose_seq» = part-length l 514 224 (omega arith);
-      «sv_seq» = part-length l 738 192 (omega arith);
-      «time_trackers» = part-length l 930 64 (omega arith);
-      «cb_reservations» = part-length l 994 224 (omega arith);
+      «rate_buckets» = part-length l 434 66 (omega arith);
+      «goose_seq» = part-length l 500 210 (omega arith);
+      «sv_seq» = part-length l 710 178 (omega arith);
+      «time_trackers» = part-length l 888 50 (omega arith);
+      «cb_reservations» = part-length l 938 210 (omega arith);
     }
 
 length-zero : (n : ℕ) → length (zeroWords n) ≡ n
@@ -197,11 +197,11 @@ fresh-sized settings z =
       «mms_rules» = length-zero 49;
       «goose_publishers» = length-zero 177;
       «sv_publishers» = length-zero 193;
-      «rate_buckets» = length-none 80;
-      «goose_seq» = length-none 224;
-      «sv_seq» = length-none 192;
-      «time_trackers» = length-none 64;
-      «cb_reservations» = length-none 224;
+      «rate_buckets» = length-none 66;
+      «goose_seq» = length-none 210;
+      «sv_seq» = length-none 178;
+      «time_trackers» = length-none 50;
+      «cb_reservations» = length-none 210;
     }
 
 pub new-sized : (strict : Bool) → Sized (newMonitor strict)

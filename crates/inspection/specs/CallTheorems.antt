@@ -141,7 +141,7 @@ abbrev pub countFrom : (Monitor → Call → ℕ) → ℕ → Monitor → ℕ �
 countFrom adds first m n [] = n
 countFrom adds first m n (c ∷ calls) = countFrom adds first (called m c) (unlessReset c first (n + adds m c)) calls
 
--- a total within 64 bits is, after any calls, that count or the most that 64 bits hold. A monitor of 1218 words has parts of their sizes
+-- a total within 64 bits is, after any calls, that count or the most that 64 bits hold. A monitor of 1148 words has parts of their sizes
 abbrev pub Counts : (Monitor → ℕ) → (Monitor → Call → ℕ) → Type 0
 Counts total adds =
     (m : Monitor) (calls : List Call) → Sized m → total m < 2 ^ 64

@@ -10,7 +10,7 @@ use monitor::parts::check_cb_on;
 use monitor::parts::no_reservations_on;
 
 // Whether a control block or data set of this name is bound to another address; its first use binds it. Without reservations no key is made.
-pub fn hijacked(m: &mut [u64; 1218], is_goose: bool, name: &[u8; 64], len: u8, address: u64) -> bool
+pub fn hijacked(m: &mut [u64; 1148], is_goose: bool, name: &[u8; 64], len: u8, address: u64) -> bool
     ensures { λ r. ⌜ record { monitor = monitorOf (now (m .exit)); answer = r }
         ≡ cbOn (monitorOf (now (m .entry))) (reservationKey «is_goose» (nameOf (now (name .entry)) len)) address ⌝ }
 {

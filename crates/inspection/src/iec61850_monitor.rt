@@ -46,7 +46,7 @@ use records::schedule::RetxSchedule;
 // The whole state: what an entry takes and gives back.
 #[repr(C)]
 pub struct Iec61850Monitor {
-    pub words: [u64; 1218],
+    pub words: [u64; 1148],
 }
 
 // The monitor after an add call, with the answer.
@@ -71,7 +71,7 @@ pub struct RawInspected {
 fn fresh(strict_mode: bool) -> Iec61850Monitor
     ensures { λ r. ⌜ monitorOf (r .words) ≡ newMonitor «strict_mode» ⌝ }
 {
-    let mut out = Iec61850Monitor { words: [0; 1218] };
+    let mut out = Iec61850Monitor { words: [0; 1148] };
     new_on(&mut out.words, strict_mode);
     out
 }

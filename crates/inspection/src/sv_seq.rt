@@ -12,7 +12,7 @@ use tables::order::clear;
 
 // Sixteen streams, each of one svID, with its last count.
 pub struct SvSeqTable {
-    pub words: [u64; 192],
+    pub words: [u64; 178],
 }
 
 // The streams after a frame, and what its count says.
@@ -21,8 +21,8 @@ pub struct SvChecked {
     pub outcome: SvSeqOutcome,
 }
 
-fn clear_table(t: &mut [u64; 192])
-    ensures { λ _. ⌜ now (t .exit) ≡ noEntries 192 ⌝ }
+fn clear_table(t: &mut [u64; 178])
+    ensures { λ _. ⌜ now (t .exit) ≡ noEntries 178 ⌝ }
 {
     clear(t);
 }
@@ -30,15 +30,15 @@ fn clear_table(t: &mut [u64; 192])
 impl SvSeqTable {
     // No streams.
     pub fn new() -> Self
-        ensures { λ r. ⌜ r .words ≡ noEntries 192 ⌝ }
+        ensures { λ r. ⌜ r .words ≡ noEntries 178 ⌝ }
     {
-        let mut out = SvSeqTable { words: [0; 192] };
+        let mut out = SvSeqTable { words: [0; 178] };
         clear_table(&mut out.words);
         out
     }
 }
 
-fn check_table(t: &mut [u64; 192], svid: &[u64; 10], smp_cnt: u16) -> SvSeqOutcome
+fn check_table(t: &mut [u64; 178], svid: &[u64; 10], smp_cnt: u16) -> SvSeqOutcome
     ensures { λ r. ⌜ record { table = now (t .exit); outcome = r } ≡ svChecked (now (t .entry)) (now (svid .entry)) «smp_cnt» ⌝ }
 {
     check_sv_seq_in(t, svid, smp_cnt)
