@@ -16,7 +16,7 @@ fn batch_count(frames_len: usize, verdicts_len: usize) -> usize
 
 // Inspects the frames, writes a verdict for each, and answers how many there were. Octets behind the last whole record are not read, and
 // a frame without room for its verdict is not inspected.
-pub fn inspect_sv_batch(m: &mut [u64; 1218], frames: &[u8], verdicts: &mut [u8]) -> usize
+pub fn inspect_sv_batch(m: &mut [u64; 1148], frames: &[u8], verdicts: &mut [u8]) -> usize
     ensures { λ r. ⌜ record { monitor = monitorOf (now (m .exit)); verdicts = now (verdicts .exit); count = r }
         ≡ svBatch (monitorOf (now (m .entry))) (now (frames .entry)) (now (verdicts .entry)) ⌝ }
 {
