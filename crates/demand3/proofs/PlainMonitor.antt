@@ -70,11 +70,11 @@ module _ (m : Monitor) (v : Remembering) where
 
 -- ---- without reservations and publishers
 
-not-bound : (t key : List ℕ) (address : ℕ) → t ≡ noEntries 224 → cbChecked t key address ≡ record { table = t; hijack = false }
+not-bound : (t key : List ℕ) (address : ℕ) → t ≡ noEntries 210 → cbChecked t key address ≡ record { table = t; hijack = false }
 unfolding cbChecked
 not-bound t key address e =
     cond-holds (λ (c : CbChecked). c ≡ record { table = t; hijack = false }) (eqb (getD key 1 0) 0) refl
-    (ap (boundBy t address) (none-found named t key (ap allFree e ∙ none-free 224 (omega arith))))
+    (ap (boundBy t address) (none-found named t key (ap allFree e ∙ none-free 210 (omega arith))))
 
 not-registered : (p : List ℕ) (address : ℕ) (svid : List ℕ) → getD p 192 0 ≡ 0 → svPublisher p address svid ≡ NotRegistered
 unfolding svPublisher lastBelow
@@ -88,7 +88,7 @@ no-rate frameRate = rw (and-false (ltb 0 frameRate))
 pub record Plain (m n : Monitor) : Type 0 where
   pub settings : n .settings ≡ m .settings
   pub premises : Premises n
-  pub free : n .«cb_reservations» ≡ noEntries 224
+  pub free : n .«cb_reservations» ≡ noEntries 210
 
 -- a monitor with these tables
 abbrev withTables : Monitor → Remembering → Monitor

@@ -262,11 +262,11 @@ module _ (m : Monitor) where
 -- nothing remembered
 pub remembers-new : Remembers newRemembering noLists
 remembers-new = record {
-  svSeq = holds-none (byName oneLaws 0) (noEntries 192) (length-none 192) (rank-none 192 (omega arith));
+  svSeq = holds-none (byName oneLaws 0) (noEntries 178) (length-none 178) (rank-none 178 (omega arith));
   gooseSeq = record {
     timed = [];
-    holds = holds-none (byTwoNumbers threeLaws) (noEntries 224) (length-none 224) (rank-none 224 (omega arith));
+    holds = holds-none (byTwoNumbers threeLaws) (noEntries 210) (length-none 210) (rank-none 210 (omega arith));
     numbers = refl;
   };
-  timeTrackers = holds-none (byNumber twoLaws) (noEntries 64) (length-none 64) (rank-none 64 (omega arith));
+  timeTrackers = holds-none (byNumber twoLaws) (noEntries 50) (length-none 50) (rank-none 50 (omega arith));
 }

@@ -18,11 +18,11 @@ abbrev pub remembering : Monitor → Remembering
 remembering m = record { svSeq = m .«sv_seq»; gooseSeq = m .«goose_seq»; timeTrackers = m .«time_trackers» }
 
 abbrev pub newRemembering : Remembering
-newRemembering = record { svSeq = noEntries 192; gooseSeq = noEntries 224; timeTrackers = noEntries 64 }
+newRemembering = record { svSeq = noEntries 178; gooseSeq = noEntries 210; timeTrackers = noEntries 50 }
 
 module _ (strict : Bool) (settings : List Setting) where
   pub configured-tables : remembering (configuredMonitor strict settings) ≡ newRemembering
   configured-tables = let u = configured-untouched strict settings in λ i. record { svSeq = u .sv i; gooseSeq = u .goose i; timeTrackers = u .clocks i }
 
-  pub configured-free : configuredMonitor strict settings .«cb_reservations» ≡ noEntries 224
+  pub configured-free : configuredMonitor strict settings .«cb_reservations» ≡ noEntries 210
   configured-free = configured-untouched strict settings .reservations
