@@ -2,7 +2,7 @@
    docs/HOST.md says how to embed it. x86-64 Linux, little-endian; the layouts are those of the C compiler.
 
    A call in place takes a pointer to a monitor, and changes the monitor where it stands: for a recorder this is the way. Most calls are
-   there by value too: a monitor goes in and comes back, 9744 octets each way. No call keeps a pointer, allocates, or has state of its
+   there by value too: a monitor goes in and comes back, 9184 octets each way. No call keeps a pointer, allocates, or has state of its
    own. Octets are passed as a pointer and a length, and (NULL, 0) is no octets. A flag is a number of 8 bits: handed in, any but 0 is
    true; handed out, true is 1. */
 #ifndef MOKYNDU_H
@@ -126,8 +126,8 @@ enum {
 /* The whole state of a monitor, in words of the engine's own. A caller makes one by mokyndu_new_in_place or mokyndu_new_strict_in_place,
    whatever octets stood there, and only calls change it; the readers say its totals. A copy of it is another monitor. */
 typedef struct {
-    uint64_t words[1218];
-} mokyndu_monitor; /* 9744 */
+    uint64_t words[1148];
+} mokyndu_monitor; /* 9184 */
 
 /* How GOOSE frames are repeated: microseconds, and the tolerance in percent. */
 typedef struct {
@@ -230,20 +230,20 @@ typedef struct {
 typedef struct {
     mokyndu_monitor monitor;
     uint8_t error;
-} mokyndu_configured; /* 9752 */
+} mokyndu_configured; /* 9192 */
 
 /* The monitor after a frame, and the result. A refused frame changes the monitor too: keep the monitor that was returned, always. */
 typedef struct {
     mokyndu_monitor monitor;
     mokyndu_result result;
-} mokyndu_inspected; /* 9976 */
+} mokyndu_inspected; /* 9416 */
 
 /* The monitor after a raw frame, the result, and the error's number, as in mokyndu_raw_verdict. */
 typedef struct {
     mokyndu_monitor monitor;
     mokyndu_result result;
     uint8_t error;
-} mokyndu_raw_inspected; /* 9984 */
+} mokyndu_raw_inspected; /* 9424 */
 
 /* The SV frame in some octets, and the error's number; a frame of zeros beside an error. */
 typedef struct {
@@ -252,15 +252,15 @@ typedef struct {
 } mokyndu_parsed; /* 168 */
 
 /* The layouts that the exports read and write. */
-MOKYNDU_ASSERT(sizeof(mokyndu_monitor) == 9744, "the monitor");
+MOKYNDU_ASSERT(sizeof(mokyndu_monitor) == 9184, "the monitor");
 MOKYNDU_ASSERT(sizeof(mokyndu_retx_schedule) == 12, "the schedule");
 MOKYNDU_ASSERT(sizeof(mokyndu_mms_frame) == 88 && offsetof(mokyndu_mms_frame, timestamp_us) == 72, "the MMS frame");
 MOKYNDU_ASSERT(sizeof(mokyndu_goose_frame) == 104 && offsetof(mokyndu_goose_frame, timestamp_us) == 88, "the GOOSE frame");
 MOKYNDU_ASSERT(sizeof(mokyndu_sv_frame) == 160 && offsetof(mokyndu_sv_frame, timestamp_us) == 144, "the SV frame");
 MOKYNDU_ASSERT(sizeof(mokyndu_verdict) == 8 && sizeof(mokyndu_raw_verdict) == 9, "verdicts");
 MOKYNDU_ASSERT(sizeof(mokyndu_alert) == 56 && sizeof(mokyndu_result) == 232, "the result");
-MOKYNDU_ASSERT(sizeof(mokyndu_configured) == 9752 && sizeof(mokyndu_inspected) == 9976, "answers by value");
-MOKYNDU_ASSERT(sizeof(mokyndu_raw_inspected) == 9984 && sizeof(mokyndu_parsed) == 168, "answers on raw frames");
+MOKYNDU_ASSERT(sizeof(mokyndu_configured) == 9192 && sizeof(mokyndu_inspected) == 9416, "answers by value");
+MOKYNDU_ASSERT(sizeof(mokyndu_raw_inspected) == 9424 && sizeof(mokyndu_parsed) == 168, "answers on raw frames");
 
 /* ---- calls in place. The monitor and the frame are read and written where they stand: nothing else may write them during the call, nor
    read the monitor. */
