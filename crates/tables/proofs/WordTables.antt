@@ -338,7 +338,8 @@ module _ (start : ℕ) (t k : List ℕ) (i : ℕ) (h : i < 16) where
   )
 
 -- a key is the same where its words are
-pub key-same : (start : ℕ) (t u : List ℕ) (i : ℕ) → (i < 16 → getD u (start + i) 0 ≡ getD t (start + i) 0) → (i < 16 → getD u (start + 16 + i) 0 ≡ getD t (start + 16 + i) 0)
+pub key-same : (start : ℕ) (t u : List ℕ) (i : ℕ) → (i < 16 → getD u (start + i) 0 ≡ getD t (start + i) 0)
+    → (i < 16 → getD u (start + 16 + i) 0 ≡ getD t (start + 16 + i) 0)
     → ((j : ℕ) → i < 16 → j < 8 → getD u (start + 32 + i * 8 + j) 0 ≡ getD t (start + 32 + i * 8 + j) 0) → keyAt start u i ≡ keyAt start t i
 key-same start t u i a b w =
     let p = word-same t u start i a in
