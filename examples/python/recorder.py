@@ -13,7 +13,7 @@ NO_ERROR = 255
 
 
 class Monitor(Structure):
-    _fields_ = [("words", c_uint64 * 1218)]
+    _fields_ = [("words", c_uint64 * 1148)]
 
 
 class RetxSchedule(Structure):
@@ -68,7 +68,7 @@ class Inspected(Structure):
     _fields_ = [("monitor", Monitor), ("result", Result)]
 
 
-SIZES = [(Monitor, 9744), (MmsFrame, 88), (GooseFrame, 104), (SvFrame, 160), (Verdict, 8), (RawVerdict, 9), (Result, 232)]
+SIZES = [(Monitor, 9184), (MmsFrame, 88), (GooseFrame, 104), (SvFrame, 160), (Verdict, 8), (RawVerdict, 9), (Result, 232)]
 assert all(sizeof(layout) == size for layout, size in SIZES)
 
 # What each call that is used here takes behind the monitor, and what it answers.

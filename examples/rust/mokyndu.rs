@@ -6,7 +6,7 @@ use std::mem::{size_of, size_of_val};
 #[repr(C)]
 #[derive(Clone, Copy)]
 pub struct Monitor {
-    words: [u64; 1218],
+    words: [u64; 1148],
 }
 
 #[repr(C)]
@@ -128,11 +128,11 @@ pub struct Parsed {
     pub error: u8,
 }
 
-const _: () = assert!(size_of::<Monitor>() == 9744 && size_of::<RetxSchedule>() == 12);
+const _: () = assert!(size_of::<Monitor>() == 9184 && size_of::<RetxSchedule>() == 12);
 const _: () = assert!(size_of::<MmsFrame>() == 88 && size_of::<GooseFrame>() == 104 && size_of::<SvFrame>() == 160);
 const _: () = assert!(size_of::<Verdict>() == 8 && size_of::<RawVerdict>() == 9);
-const _: () = assert!(size_of::<Alert>() == 56 && size_of::<Result>() == 232 && size_of::<Configured>() == 9752);
-const _: () = assert!(size_of::<Inspected>() == 9976 && size_of::<RawInspected>() == 9984 && size_of::<Parsed>() == 168);
+const _: () = assert!(size_of::<Alert>() == 56 && size_of::<Result>() == 232 && size_of::<Configured>() == 9192);
+const _: () = assert!(size_of::<Inspected>() == 9416 && size_of::<RawInspected>() == 9424 && size_of::<Parsed>() == 168);
 
 // In the place of an error's number: added, or read.
 pub const NO_ERROR: u8 = 255;
@@ -196,7 +196,7 @@ extern "C" {
 // Safe: any words are a monitor, any octets a frame, and a reference or a slice is what each call asks for.
 impl Monitor {
     // Words in which `new_in_place` or `new_strict_in_place` makes a monitor.
-    pub const UNSET: Monitor = Monitor { words: [0; 1218] };
+    pub const UNSET: Monitor = Monitor { words: [0; 1148] };
 
     pub fn new_in_place(&mut self) {
         unsafe { mokyndu_new_in_place(self) }
