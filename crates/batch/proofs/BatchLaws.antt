@@ -7,12 +7,13 @@ use native.Mathlib.Omega.{arith}
 use lib.ListN.{length, take, drop}
 use Rattle.records.specs.Name.{octetAt, overwritten}
 use Rattle.records.proofs.NameLaws.{length-overwritten}
+use Rattle.records.specs.declared.result.InspectResult.{InspectResult}
 use Rattle.monitor.specs.Monitor.{Monitor}
 use Rattle.monitor.specs.Parts.{After}
 use Rattle.inspection.specs.InspectSv.{inspectSv}
 use Rattle.inspection.specs.Report.{withVerdict}
 use Rattle.lent.specs.Sv.{svFrameOf}
-use Rattle.batch.specs.Batch.{batchCount, frameAt, svAfter, svVerdicts}
+use Rattle.batch.specs.Batch.{batchCount, frameAt, verdictPut, svAfter, svVerdicts}
 
 -- the record of a frame that is inspected lies within the octets
 module _ (frames verdicts : ℕ) {i n : ℕ} (e : n ≡ batchCount frames verdicts) (h : i < n) where
@@ -51,20 +52,29 @@ module _ (m : Monitor) (frames : List ℕ) where
 
   -- one more frame, inspected on the monitor that the ones before it left
   module _
-      (n : ℕ) {before after : Monitor} {verdict : List ℕ}
+      (n : ℕ) (octets : List ℕ) {before after : Monitor} {verdicts put : List ℕ}
       (a : before ≡ svAfter m frames n)
-      (e : record { monitor = after; answer = verdict } ≡ withVerdict (inspectSv before (svFrameOf (cut frames n))))
+      (v : verdicts ≡ svVerdicts m frames octets n)
+      (e : record { monitor = after; answer = put } ≡ verdictPut verdicts (n * 8) (inspectSv before (svFrameOf (cut frames n))))
     where
-      inspected : record { monitor = after; answer = verdict } ≡ withVerdict (inspectSv (svAfter m frames n) (frameAt frames n))
-      inspected = e ∙ (λ i. withVerdict (inspectSv (a i) (cut-frame frames n i)))
+      inspected :
+          record { monitor = after; answer = put }
+          ≡ verdictPut (svVerdicts m frames octets n) (n * 8) (inspectSv (svAfter m frames n) (frameAt frames n))
+      inspected = e ∙ (λ i. verdictPut (v i) (n * 8) (inspectSv (a i) (cut-frame frames n i)))
 
       pub after-more : after ≡ svAfter m frames (n + 1)
       unfolding svAfter
       after-more = rw add-one (ap (λ (x : After (List ℕ)). x .monitor) inspected)
 
-      pub verdicts-more :
-          (octets : List ℕ) {verdicts : List ℕ}
-          → verdicts ≡ svVerdicts m frames octets n
-          → overwritten verdicts (n * 8) (octetAt verdict) 8 ≡ svVerdicts m frames octets (n + 1)
+      pub verdicts-more : put ≡ svVerdicts m frames octets (n + 1)
       unfolding svVerdicts
-      verdicts-more octets v = rw add-one (λ i. overwritten (v i) (n * 8) (octetAt (inspected i .answer)) 8)
+      verdicts-more = rw add-one (ap (λ (x : After (List ℕ)). x .answer) inspected)
+
+-- a verdict put from a place on
+pub verdict-put :
+    (octets : List ℕ) (at : ℕ) (i : After InspectResult) {m : Monitor} {verdict put : List ℕ}
+    → record { monitor = m; answer = verdict } ≡ withVerdict i → put ≡ overwritten octets at (octetAt verdict) 8
+    → record { monitor = m; answer = put } ≡ verdictPut octets at i
+verdict-put octets at i {m} e p =
+    (λ k. record { monitor = m; answer = p k })
+    ∙ ap (λ (x : After (List ℕ)). record { monitor = x .monitor; answer = overwritten octets at (octetAt (x .answer)) 8 }) e

@@ -5,7 +5,9 @@ use lib.ListN.{length, take, drop}
 use Rattle.records.specs.declared.frame.SvFrame.{SvFrame}
 use Rattle.records.specs.Name.{octetAt, overwritten}
 use Rattle.records.specs.Verdict.{verdictOf}
+use Rattle.records.specs.declared.result.InspectResult.{InspectResult}
 use Rattle.monitor.specs.Monitor.{Monitor}
+use Rattle.monitor.specs.Parts.{After}
 use Rattle.inspection.specs.InspectSv.{inspectSv}
 use Rattle.lent.specs.Sv.{svFrameOf}
 
@@ -17,6 +19,10 @@ batchCount frames verdicts = min (frames / 160) (verdicts / 8)
 abbrev pub frameAt : List ℕ → ℕ → SvFrame
 frameAt frames k = svFrameOf (take 160 (drop (k * 160) frames))
 
+-- octets with the verdict of an inspection from a place on, beside the monitor that it leaves
+abbrev pub verdictPut : List ℕ → ℕ → After InspectResult → After (List ℕ)
+verdictPut octets at i = record { monitor = i .monitor; answer = overwritten octets at (octetAt (verdictOf (i .answer))) 8 }
+
 -- the monitor after the first n frames
 unfoldable pub svAfter : Monitor → List ℕ → ℕ → Monitor
 svAfter m frames zero = m
@@ -26,7 +32,7 @@ svAfter m frames (suc n) = inspectSv (svAfter m frames n) (frameAt frames n) .mo
 unfoldable pub svVerdicts : Monitor → List ℕ → List ℕ → ℕ → List ℕ
 svVerdicts m frames octets zero = octets
 svVerdicts m frames octets (suc n) =
-    overwritten (svVerdicts m frames octets n) (n * 8) (octetAt (verdictOf (inspectSv (svAfter m frames n) (frameAt frames n) .answer))) 8
+    verdictPut (svVerdicts m frames octets n) (n * 8) (inspectSv (svAfter m frames n) (frameAt frames n)) .answer
 
 -- what a batch leaves: the monitor, the octets of the verdicts, and how many frames were inspected
 pub record SvBatch : Type 0 where

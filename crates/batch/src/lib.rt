@@ -1,9 +1,15 @@
 // Many SV frames in one call, for hosts: inspected one after the other in the monitor where it stands. Each frame is a record of 160
 // octets, which is its C layout (crate lent), each verdict one of 8 (records::verdict).
 ghost use mathlib.Core.Path.{_≡_};
+ghost use lib.ListN.{length};
 ghost use Rattle.monitor.specs.Monitor.{monitorOf};
-ghost use Rattle.batch.specs.Batch.{batchCount, svBatch};
-use lent::sv::sv_verdict_part;
+ghost use Rattle.inspection.specs.InspectSv.{inspectSv};
+ghost use Rattle.lent.specs.Sv.{svFrameOf};
+ghost use Rattle.batch.specs.Batch.{batchCount, verdictPut, svBatch};
+use inspection::report::CLEAN_VERDICT;
+use inspection::report::none_found;
+use inspection::report::verdict_on;
+use lent::sv::check_sv_lent;
 use records::verdict::put_verdict;
 use wire::number::least;
 
@@ -12,6 +18,21 @@ fn batch_count(frames_len: usize, verdicts_len: usize) -> usize
     ensures { λ r. ⌜ r ≡ batchCount «frames_len» «verdicts_len» ⌝ }
 {
     least(frames_len / 160, verdicts_len / 8)
+}
+
+// Inspects a frame, and puts its verdict from a place on. Most frames have no alert: their verdict is put at once.
+fn inspect_sv_into(m: &mut [u64; 1148], o: &[u8], verdicts: &mut [u8], at: usize)
+    requires { ⌜ length (now o) ≡ 160 ⌝ }
+    ensures { λ _. ⌜ record { monitor = monitorOf (now (m .exit)); answer = now (verdicts .exit) }
+        ≡ verdictPut (now (verdicts .entry)) at (inspectSv (monitorOf (now (m .entry))) (svFrameOf (now (o .entry)))) ⌝ }
+{
+    let alerts = check_sv_lent(m, o);
+    if none_found(alerts) {
+        put_verdict(verdicts, at, CLEAN_VERDICT);
+        return;
+    }
+    let verdict = verdict_on(m, alerts);
+    put_verdict(verdicts, at, verdict);
 }
 
 // Inspects the frames, writes a verdict for each, and answers how many there were. Octets behind the last whole record are not read, and
@@ -23,8 +44,7 @@ pub fn inspect_sv_batch(m: &mut [u64; 1148], frames: &[u8], verdicts: &mut [u8])
     let n = batch_count(frames.len(), verdicts.len());
     let mut i: usize = 0;
     while i < n {
-        let verdict = sv_verdict_part(m, &frames[i * 160..i * 160 + 160]);
-        put_verdict(verdicts, i * 8, verdict);
+        inspect_sv_into(m, &frames[i * 160..i * 160 + 160], verdicts, i * 8);
         i += 1;
     }
     n

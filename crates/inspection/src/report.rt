@@ -188,7 +188,7 @@ fn push_alert(p: Pushed, alert: CheckAlert, source_type: u8, source_id: u32, ts_
 }
 
 // Whether three checks found nothing.
-fn none_found(alerts: CheckAlerts) -> bool
+pub fn none_found(alerts: CheckAlerts) -> bool
     ensures { λ r. ⌜ r ≡ noneFound alerts ⌝ }
 {
     let first = alerts.first;

@@ -33,7 +33,7 @@ fn sv_numbers(o: &[u8]) -> SvNumbers
 }
 
 // Counts and checks a frame. A key or name that is made where it is lent is not copied once more.
-fn check_sv_lent(m: &mut [u64; 1148], o: &[u8]) -> CheckAlerts
+pub fn check_sv_lent(m: &mut [u64; 1148], o: &[u8]) -> CheckAlerts
     requires { ⌜ length (now o) ≡ 160 ⌝ }
     ensures { λ r. ⌜ record { monitor = monitorOf (now (m .exit)); answer = alertsOf r }
         ≡ checkedSv (monitorOf (now (m .entry))) (svFrameOf (now (o .entry))) ⌝ }
@@ -49,20 +49,11 @@ fn check_sv_lent(m: &mut [u64; 1148], o: &[u8]) -> CheckAlerts
     )
 }
 
-// Inspects a frame in a part of a slice, and answers the verdict: for batches.
-pub fn sv_verdict_part(m: &mut [u64; 1148], o: &[u8]) -> [u8; 8]
-    requires { ⌜ length (now o) ≡ 160 ⌝ }
-    ensures { λ r. ⌜ record { monitor = monitorOf (now (m .exit)); answer = r }
-        ≡ withVerdict (inspectSv (monitorOf (now (m .entry))) (svFrameOf (now (o .entry)))) ⌝ }
-{
-    let alerts = check_sv_lent(m, o);
-    verdict_on(m, alerts)
-}
-
 // Inspects a frame, and answers the verdict.
 pub fn sv_verdict_lent(m: &mut [u64; 1148], octets: &[u8; 160]) -> [u8; 8]
     ensures { λ r. ⌜ record { monitor = monitorOf (now (m .exit)); answer = r }
         ≡ withVerdict (inspectSv (monitorOf (now (m .entry))) (svFrameOf (now (octets .entry)))) ⌝ }
 {
-    sv_verdict_part(m, octets)
+    let alerts = check_sv_lent(m, octets);
+    verdict_on(m, alerts)
 }

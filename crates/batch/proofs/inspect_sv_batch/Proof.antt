@@ -48,7 +48,7 @@ record-ends c = omega (arith, record-within c, frames-fit (c .before .before .be
 
 -- the beginning of the loop's body, from its end
 abbrev body : tie.After-slice-known2 Inv-loop μ-loop → tie.In-loop Inv-loop μ-loop
-body c = c .before .before .before .before .before .before .before
+body c = c .before .before .before .before .before .before
 
 loop-holds : tie.Need-loop-holds Inv-loop μ-loop
 loop-holds c =
@@ -61,10 +61,11 @@ loop-again c =
     let l = b .before .loop in
     let m = monitor (b .before) in
     let frames = octets (b .before) in
-    let v = c .before .before .before .before .sv-verdict-part .ensures in (
+    let v = room (b .before) in
+    let e = c .before .before .inspect-sv-into .ensures in (
       omega (arith, below b),
-      after-more m frames (l .i) (l .inv .1) v,
-      c .before .before .put-verdict .ensures ∙ verdicts-more m frames (l .i) (l .inv .1) v (room (b .before)) (l .inv .2),
+      after-more m frames (l .i) v (l .inv .1) (l .inv .2) e,
+      verdicts-more m frames (l .i) v (l .inv .1) (l .inv .2) e,
     )
 
 same-length : tie.Need-same-length Inv-loop μ-loop
@@ -91,9 +92,8 @@ inspect-sv-batch-spec =
     (λ c. omega arith)
     (λ c. omega arith)
     (λ c. record-within (c .before))
-    (λ c κs. omega (arith, record-within (c .before .before)))
-    (λ c. omega (arith, record-ends (c .before .before .before .before)))
-    (λ c κs. search needs)
+    (λ c. omega (arith, record-ends (c .before .before .before)))
+    (λ c κs. omega (arith, record-within (c .before .before .before)))
     (λ c. omega (arith, record-ends (body c)))
     (λ c. omega (arith, below (body c)))
     loop-again same-length returns)
