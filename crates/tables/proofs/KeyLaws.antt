@@ -4,7 +4,6 @@ use mathlib.Core.List.{List, [], _∷_, head-eq-of-cons-eq, tail-eq-of-cons-eq}
 use mathlib.Core.Logic.{_↔_, by-cases}
 use mathlib.Core.Path.{_≡_, refl, sym, ap, _∙_}
 use native.Mathlib.Decide.{decLt}
-use native.Mathlib.Numerals.{add-one}
 use native.Mathlib.Omega.{arith}
 use borrow.Author.Tests.{lt-ltb, le-ltb}
 use lib.ListN.{length, getD, set, replicate, List·getD-eq-default}
@@ -30,10 +29,13 @@ unfolding summed
 summed-below number f zero h = h
 summed-below number f (suc n) h = omega arith
 
-pub summed-more : (number : ℕ) (f : ℕ → ℕ) (k : ℕ) {sum word next : ℕ} → sum ≡ summed number f k → word ≡ f k → next ≡ (sum + word) % 2 ^ 64
-    → next ≡ summed number f (k + 1)
-unfolding summed
-summed-more number f k s w n = rw (add-one, n, s, w)
+-- the sum that is made of the words in a key
+abbrev sumIn : ℕ → List ℕ → ℕ
+sumIn number key = ((((number + getD key 2 0) % 2 ^ 64 + getD key 3 0) % 2 ^ 64 + getD key 4 0) % 2 ^ 64 + getD key 5 0) % 2 ^ 64
+
+sum-written : (number : ℕ) (f : ℕ → ℕ) {sum : ℕ} {key : List ℕ} → key ≡ overwritten (replicate 10 0) 2 f 8 → sum ≡ sumIn number key → sum ≡ summed number f 4
+unfolding summed overwritten
+sum-written number f e s = s ∙ ap (sumIn number) e
 
 -- the key that is written: the sum, the length and the words
 pub key-written : (f : ℕ → ℕ) (sum len : ℕ) {key : List ℕ} → key ≡ overwritten (replicate 10 0) 2 f 8
@@ -56,15 +58,15 @@ module _ (octets : List ℕ) (len : ℕ) (size : length octets ≡ 64) where
   name-word k h = packed-same _ _ 8 (λ j l. octet-same (k * 8 + j) (omega arith))
 
   pub key-of-frame : (number : ℕ) {sum valid : ℕ} {name key : List ℕ} → valid ≡ validLen len → name ≡ padded octets valid
-      → sum ≡ summed number (λ k. packed (λ j. octetAt name (k * 8 + j)) 8) 8
       → key ≡ overwritten (replicate 10 0) 2 (λ k. packed (λ j. octetAt name (k * 8 + j)) 8) 8
+      → sum ≡ sumIn number key
       → set (set key 0 sum) 1 valid ≡ keyOf number (nameOf octets len)
   unfolding keyOf
-  key-of-frame number {sum} {valid} {name} v n s e =
+  key-of-frame number {sum} {valid} {name} v n e s =
       let f : ℕ → ℕ = λ k. packed (λ j. octetAt name (k * 8 + j)) 8 in
       let each : (k : ℕ) → k < 8 → f k ≡ nameWord (nameOf octets len) k = λ k h.
       ap (λ (o : List ℕ). packed (λ j. octetAt o (k * 8 + j)) 8) (n ∙ ap (padded octets) v) ∙ name-word k h in
-      let p = s ∙ summed-same number f (nameWord (nameOf octets len)) 8 each in
+      let p = sum-written number f e s ∙ summed-same number f (nameWord (nameOf octets len)) 4 (λ k h. each k (omega arith)) in
       let q = v ∙ sym (length-name octets len size) in
       let r = tabulate-same f (nameWord (nameOf octets len)) 8 each in
       key-written f sum valid e ∙ (λ i. p i ∷ q i ∷ r i)
@@ -108,7 +110,7 @@ module _ (m n : ℕ) (a b : List ℕ) (la : LegalKey m a) (lb : LegalKey n b) wh
       sym (tabulate-at (nameWord a) 8 k 0 h) ∙ ap (λ (l : List ℕ). getD l k 0) words ∙ tabulate-at (nameWord b) 8 k 0 h in
       let size : length a ≡ length b = head-eq-of-cons-eq (tail-eq-of-cons-eq e) in
       let same = ext-getD 0 a b size (λ k h. octet-of-word a b (la .octets) (lb .octets) word k (omega (arith, la .short))) in
-      (summed-injective m n (nameWord a) 8 (la .width) (lb .width) (rw (← same) at (head-eq-of-cons-eq e)), same)
+      (summed-injective m n (nameWord a) 4 (la .width) (lb .width) (rw (← same) at (head-eq-of-cons-eq e)), same)
 
   pub key-equal : (keyOf m a ≡ keyOf n b) ↔ ((m ≡ n) × (a ≡ b))
   key-equal = (key-injective, λ e. rw (e .0, e .1))
@@ -131,7 +133,7 @@ summed-zero number (suc n) h = let e = summed-zero number n h in omega (arith, e
 
 none-keyed : (number : ℕ) → number < 2 ^ 64 → number ∷ 0 ∷ replicate 8 0 ≡ keyOf number []
 unfolding keyOf summed nameWord packed tabulate
-none-keyed number h = let e = sym (summed-zero number 8 h) in λ i. e i ∷ 0 ∷ replicate 8 0
+none-keyed number h = let e = sym (summed-zero number 4 h) in λ i. e i ∷ 0 ∷ replicate 8 0
 
 pub empty-key : (number : ℕ) (octets : List ℕ) {len : ℕ} → number < 2 ^ 64 → len ≡ 0 → number ∷ 0 ∷ replicate 8 0 ≡ keyOf number (nameOf octets len)
 empty-key number octets h e = none-keyed number h ∙ ap (λ (n : ℕ). keyOf number (nameOf octets n)) (sym e)

@@ -15,9 +15,9 @@ unfoldable pub summed : ℕ → (ℕ → ℕ) → ℕ → ℕ
 summed number word zero = number
 summed number word (suc n) = (summed number word n + word n) % 2 ^ 64
 
--- the key: a sum, the number and the name's eight words modulo 2^64, which a search compares first; the name's length; the eight words
+-- the key: a sum, the number and the name's first four words modulo 2^64, which a search compares first; the name's length; its eight words
 unfoldable pub keyOf : ℕ → List ℕ → List ℕ
-keyOf number name = summed number (nameWord name) 8 ∷ length name ∷ tabulate (nameWord name) 8
+keyOf number name = summed number (nameWord name) 4 ∷ length name ∷ tabulate (nameWord name) 8
 
 -- a key of two numbers, as an address and the hash of a name
 abbrev pub twoNumberKey : ℕ → ℕ → List ℕ

@@ -1,6 +1,6 @@
 // Keys of tables by name: a number and a name of at most 64 octets as ten words.
 ghost use mathlib.Core.Path.{_≡_};
-ghost use Prim.Native.Nat.{_+_, _*_, _≤_};
+ghost use Prim.Native.Nat.{_+_, _*_, _%_, _^_, _≤_};
 ghost use Rattle.records.specs.Name.{nameOf, octetAt};
 ghost use Rattle.tables.specs.Key.{keyOf};
 ghost use Rattle.tables.specs.Packed.{packed};
@@ -50,6 +50,16 @@ fn word_at(octets: &[u8; 64], start: usize) -> u64
     )
 }
 
+// The sum of a number and four words.
+fn sum_of(number: u64, a: u64, b: u64, c: u64, d: u64) -> u64
+    ensures { λ r. ⌜ r ≡ ((((number + a) % 2 ^ 64 + b) % 2 ^ 64 + c) % 2 ^ 64 + d) % 2 ^ 64 ⌝ }
+{
+    let one = std::num::wrapping_add_u64(number, a);
+    let two = std::num::wrapping_add_u64(one, b);
+    let three = std::num::wrapping_add_u64(two, c);
+    std::num::wrapping_add_u64(three, d)
+}
+
 // The key of a number and of the name that a frame states. The name is padded first: eight whole words are then read without a test. Most data sets
 // have no name: that key is made at once.
 pub fn name_key(number: u64, octets: [u8; 64], len: u8) -> [u64; 10]
@@ -61,15 +71,12 @@ pub fn name_key(number: u64, octets: [u8; 64], len: u8) -> [u64; 10]
     let valid = valid_len(len);
     let name = padded(&octets, valid);
     let mut key = [0u64; 10];
-    let mut sum = number;
     let mut k: usize = 0;
     while k < 8 {
-        let word = word_at(&name, k * 8);
-        sum = std::num::wrapping_add_u64(sum, word);
-        key[k + 2] = word;
+        key[k + 2] = word_at(&name, k * 8);
         k += 1;
     }
-    key[0] = sum;
+    key[0] = sum_of(number, key[2], key[3], key[4], key[5]);
     key[1] = wide(valid);
     key
 }
