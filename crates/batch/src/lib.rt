@@ -10,6 +10,7 @@ use inspection::report::CLEAN_VERDICT;
 use inspection::report::none_found;
 use inspection::report::verdict_on;
 use lent::sv::check_sv_lent;
+use monitor::parts::WORDS;
 use records::verdict::put_verdict;
 use wire::number::least;
 
@@ -21,7 +22,7 @@ fn batch_count(frames_len: usize, verdicts_len: usize) -> usize
 }
 
 // Inspects a frame, and puts its verdict from a place on. Most frames have no alert: their verdict is put at once.
-fn inspect_sv_into(m: &mut [u64; 1148], o: &[u8], verdicts: &mut [u8], at: usize)
+fn inspect_sv_into(m: &mut [u64; WORDS], o: &[u8], verdicts: &mut [u8], at: usize)
     requires { ⌜ length (now o) ≡ 160 ⌝ }
     ensures { λ _. ⌜ record { monitor = monitorOf (now (m .exit)); answer = now (verdicts .exit) }
         ≡ verdictPut (now (verdicts .entry)) at (inspectSv (monitorOf (now (m .entry))) (svFrameOf (now (o .entry)))) ⌝ }
@@ -37,7 +38,7 @@ fn inspect_sv_into(m: &mut [u64; 1148], o: &[u8], verdicts: &mut [u8], at: usize
 
 // Inspects the frames, writes a verdict for each, and answers how many there were. Octets behind the last whole record are not read, and
 // a frame without room for its verdict is not inspected.
-pub fn inspect_sv_batch(m: &mut [u64; 1148], frames: &[u8], verdicts: &mut [u8]) -> usize
+pub fn inspect_sv_batch(m: &mut [u64; WORDS], frames: &[u8], verdicts: &mut [u8]) -> usize
     ensures { λ r. ⌜ record { monitor = monitorOf (now (m .exit)); verdicts = now (verdicts .exit); count = r }
         ≡ svBatch (monitorOf (now (m .entry))) (now (frames .entry)) (now (verdicts .entry)) ⌝ }
 {

@@ -29,6 +29,7 @@ use inspection::inspect_sv::sv_verdict_on;
 use lent::goose::goose_verdict_lent;
 use lent::mms::mms_verdict_lent;
 use lent::sv::sv_verdict_lent;
+use monitor::parts::WORDS;
 use monitor::parts::add_goose_publisher_on;
 use monitor::parts::add_mms_rule_on;
 use monitor::parts::add_sv_publisher_on;
@@ -53,7 +54,7 @@ use wire::sv::parse_sv;
 
 // Makes a monitor that is not strict, whatever stood there.
 #[no_mangle]
-pub extern "C" fn mokyndu_new_in_place(m: &mut [u64; 1148])
+pub extern "C" fn mokyndu_new_in_place(m: &mut [u64; WORDS])
     ensures { λ _. ⌜ monitorOf (now (m .exit)) ≡ newMonitor false ⌝ }
 {
     new_on(m, false);
@@ -61,7 +62,7 @@ pub extern "C" fn mokyndu_new_in_place(m: &mut [u64; 1148])
 
 // Makes a strict monitor, whatever stood there.
 #[no_mangle]
-pub extern "C" fn mokyndu_new_strict_in_place(m: &mut [u64; 1148])
+pub extern "C" fn mokyndu_new_strict_in_place(m: &mut [u64; WORDS])
     ensures { λ _. ⌜ monitorOf (now (m .exit)) ≡ newMonitor true ⌝ }
 {
     new_on(m, true);
@@ -69,7 +70,7 @@ pub extern "C" fn mokyndu_new_strict_in_place(m: &mut [u64; 1148])
 
 // As new but for the settings.
 #[no_mangle]
-pub extern "C" fn mokyndu_reset_in_place(m: &mut [u64; 1148])
+pub extern "C" fn mokyndu_reset_in_place(m: &mut [u64; WORDS])
     ensures { λ _. ⌜ monitorOf (now (m .exit)) ≡ resetMonitor (monitorOf (now (m .entry))) ⌝ }
 {
     reset_on(m);
@@ -77,7 +78,7 @@ pub extern "C" fn mokyndu_reset_in_place(m: &mut [u64; 1148])
 
 // Bit n of the mask allows the service of raw number n; 0 filters none.
 #[no_mangle]
-pub extern "C" fn mokyndu_set_mms_service_mask_in_place(m: &mut [u64; 1148], mask: u16)
+pub extern "C" fn mokyndu_set_mms_service_mask_in_place(m: &mut [u64; WORDS], mask: u16)
     ensures { λ _. ⌜ monitorOf (now (m .exit)) ≡ setMmsServiceMask (monitorOf (now (m .entry))) mask ⌝ }
 {
     set_mms_service_mask_on(m, mask);
@@ -85,7 +86,7 @@ pub extern "C" fn mokyndu_set_mms_service_mask_in_place(m: &mut [u64; 1148], mas
 
 // Whether all writes are refused.
 #[no_mangle]
-pub extern "C" fn mokyndu_set_mms_read_only_in_place(m: &mut [u64; 1148], read_only: u8)
+pub extern "C" fn mokyndu_set_mms_read_only_in_place(m: &mut [u64; WORDS], read_only: u8)
     ensures { λ _. ⌜ monitorOf (now (m .exit)) ≡ setMmsReadOnly (monitorOf (now (m .entry))) (flagOf «read_only») ⌝ }
 {
     set_mms_read_only_on(m, read_only != 0);
@@ -93,7 +94,7 @@ pub extern "C" fn mokyndu_set_mms_read_only_in_place(m: &mut [u64; 1148], read_o
 
 // Whether GOOSE test frames are refused.
 #[no_mangle]
-pub extern "C" fn mokyndu_set_block_test_frames_in_place(m: &mut [u64; 1148], block: u8)
+pub extern "C" fn mokyndu_set_block_test_frames_in_place(m: &mut [u64; WORDS], block: u8)
     ensures { λ _. ⌜ monitorOf (now (m .exit)) ≡ setBlockTestFrames (monitorOf (now (m .entry))) (flagOf block) ⌝ }
 {
     set_block_test_frames_on(m, block != 0);
@@ -101,7 +102,7 @@ pub extern "C" fn mokyndu_set_block_test_frames_in_place(m: &mut [u64; 1148], bl
 
 // The largest gap of smpCnt that is accepted; 0 accepts any.
 #[no_mangle]
-pub extern "C" fn mokyndu_set_sv_max_smp_cnt_gap_in_place(m: &mut [u64; 1148], gap: u16)
+pub extern "C" fn mokyndu_set_sv_max_smp_cnt_gap_in_place(m: &mut [u64; WORDS], gap: u16)
     ensures { λ _. ⌜ monitorOf (now (m .exit)) ≡ setSvMaxSmpCntGap (monitorOf (now (m .entry))) gap ⌝ }
 {
     set_sv_max_smp_cnt_gap_on(m, gap);
@@ -110,7 +111,7 @@ pub extern "C" fn mokyndu_set_sv_max_smp_cnt_gap_in_place(m: &mut [u64; 1148], g
 // The schedule of retransmissions, and whether it is enforced.
 #[no_mangle]
 pub extern "C" fn mokyndu_set_retx_schedule_in_place(
-    m: &mut [u64; 1148],
+    m: &mut [u64; WORDS],
     schedule: RetxSchedule,
     enforce: u8,
 )
@@ -121,7 +122,7 @@ pub extern "C" fn mokyndu_set_retx_schedule_in_place(
 
 // How many seconds a clock may go ahead from one frame to the next; 0 for any.
 #[no_mangle]
-pub extern "C" fn mokyndu_set_time_max_forward_jump_s_in_place(m: &mut [u64; 1148], seconds: u32)
+pub extern "C" fn mokyndu_set_time_max_forward_jump_s_in_place(m: &mut [u64; WORDS], seconds: u32)
     ensures { λ _. ⌜ monitorOf (now (m .exit)) ≡ setTimeMaxForwardJump (monitorOf (now (m .entry))) seconds ⌝ }
 {
     set_time_max_forward_jump_s_on(m, seconds);
@@ -130,7 +131,7 @@ pub extern "C" fn mokyndu_set_time_max_forward_jump_s_in_place(m: &mut [u64; 114
 // Adds an MMS rule of a mask, write protection and a rate, 0 for no limit.
 #[no_mangle]
 pub extern "C" fn mokyndu_add_mms_rule_in_place(
-    m: &mut [u64; 1148],
+    m: &mut [u64; WORDS],
     service_mask: u16,
     read_only: u8,
     max_rate_per_sec: u16,
@@ -145,7 +146,7 @@ pub extern "C" fn mokyndu_add_mms_rule_in_place(
 // Adds a GOOSE publisher; an empty name fits any control block of the address.
 #[no_mangle]
 pub extern "C" fn mokyndu_add_goose_publisher_in_place(
-    m: &mut [u64; 1148],
+    m: &mut [u64; WORDS],
     src_mac: &[u8; 6],
     go_cb_ref: &[u8],
 ) -> u8
@@ -161,7 +162,7 @@ pub extern "C" fn mokyndu_add_goose_publisher_in_place(
 // Binds an svID to an address; a rate of 0 is not compared.
 #[no_mangle]
 pub extern "C" fn mokyndu_add_sv_publisher_in_place(
-    m: &mut [u64; 1148],
+    m: &mut [u64; WORDS],
     src_mac: &[u8; 6],
     svid: &[u8],
     expected_smp_rate: u16,
@@ -177,7 +178,7 @@ pub extern "C" fn mokyndu_add_sv_publisher_in_place(
 
 // Inspects an MMS frame, lent as the octets of its struct.
 #[no_mangle]
-pub extern "C" fn mokyndu_mms_in_place(m: &mut [u64; 1148], frame: &[u8; 88]) -> HostVerdict
+pub extern "C" fn mokyndu_mms_in_place(m: &mut [u64; WORDS], frame: &[u8; 88]) -> HostVerdict
     ensures { λ r. ⌜ record { monitor = monitorOf (now (m .exit)); answer = r .octets }
         ≡ withVerdict (inspectMms (monitorOf (now (m .entry))) (mmsFrameOf (now (frame .entry)))) ⌝ }
 {
@@ -187,7 +188,7 @@ pub extern "C" fn mokyndu_mms_in_place(m: &mut [u64; 1148], frame: &[u8; 88]) ->
 
 // Inspects a GOOSE frame.
 #[no_mangle]
-pub extern "C" fn mokyndu_goose_in_place(m: &mut [u64; 1148], frame: &[u8; 104]) -> HostVerdict
+pub extern "C" fn mokyndu_goose_in_place(m: &mut [u64; WORDS], frame: &[u8; 104]) -> HostVerdict
     ensures { λ r. ⌜ record { monitor = monitorOf (now (m .exit)); answer = r .octets }
         ≡ withVerdict (inspectGoose (monitorOf (now (m .entry))) (gooseFrameOf (now (frame .entry)))) ⌝ }
 {
@@ -197,7 +198,7 @@ pub extern "C" fn mokyndu_goose_in_place(m: &mut [u64; 1148], frame: &[u8; 104])
 
 // Inspects an SV frame.
 #[no_mangle]
-pub extern "C" fn mokyndu_sv_in_place(m: &mut [u64; 1148], frame: &[u8; 160]) -> HostVerdict
+pub extern "C" fn mokyndu_sv_in_place(m: &mut [u64; WORDS], frame: &[u8; 160]) -> HostVerdict
     ensures { λ r. ⌜ record { monitor = monitorOf (now (m .exit)); answer = r .octets }
         ≡ withVerdict (inspectSv (monitorOf (now (m .entry))) (svFrameOf (now (frame .entry)))) ⌝ }
 {
@@ -208,7 +209,7 @@ pub extern "C" fn mokyndu_sv_in_place(m: &mut [u64; 1148], frame: &[u8; 160]) ->
 // Inspects a raw SV frame: the verdict, and the error's number. One that cannot be read leaves the monitor, and is not allowed.
 #[no_mangle]
 pub extern "C" fn mokyndu_raw_sv_in_place(
-    m: &mut [u64; 1148],
+    m: &mut [u64; WORDS],
     octets: &[u8],
     timestamp_us: u64,
 ) -> HostRawVerdict
@@ -236,7 +237,7 @@ pub extern "C" fn mokyndu_raw_sv_in_place(
 // layout, and the verdicts as 8 octets each. Whole records are inspected, as long as there is room for their verdicts.
 #[no_mangle]
 pub extern "C" fn mokyndu_sv_batch_in_place(
-    m: &mut [u64; 1148],
+    m: &mut [u64; WORDS],
     frames: &[u8],
     verdicts: &mut [u8],
 ) -> u64
@@ -248,7 +249,7 @@ pub extern "C" fn mokyndu_sv_batch_in_place(
 
 // How many MMS frames were inspected.
 #[no_mangle]
-pub extern "C" fn mokyndu_mms_total_inspected_in_place(m: &[u64; 1148]) -> u64
+pub extern "C" fn mokyndu_mms_total_inspected_in_place(m: &[u64; WORDS]) -> u64
     ensures { λ r. ⌜ r ≡ mmsTotalInspected (monitorOf (now (m .entry))) ⌝ }
 {
     total_on(m, MMS_TOTAL_INSPECTED)
@@ -256,7 +257,7 @@ pub extern "C" fn mokyndu_mms_total_inspected_in_place(m: &[u64; 1148]) -> u64
 
 // How many GOOSE frames were inspected.
 #[no_mangle]
-pub extern "C" fn mokyndu_goose_total_inspected_in_place(m: &[u64; 1148]) -> u64
+pub extern "C" fn mokyndu_goose_total_inspected_in_place(m: &[u64; WORDS]) -> u64
     ensures { λ r. ⌜ r ≡ gooseTotalInspected (monitorOf (now (m .entry))) ⌝ }
 {
     total_on(m, GOOSE_TOTAL_INSPECTED)
@@ -264,7 +265,7 @@ pub extern "C" fn mokyndu_goose_total_inspected_in_place(m: &[u64; 1148]) -> u64
 
 // How many SV frames were inspected.
 #[no_mangle]
-pub extern "C" fn mokyndu_sv_total_inspected_in_place(m: &[u64; 1148]) -> u64
+pub extern "C" fn mokyndu_sv_total_inspected_in_place(m: &[u64; WORDS]) -> u64
     ensures { λ r. ⌜ r ≡ svTotalInspected (monitorOf (now (m .entry))) ⌝ }
 {
     total_on(m, SV_TOTAL_INSPECTED)
@@ -272,7 +273,7 @@ pub extern "C" fn mokyndu_sv_total_inspected_in_place(m: &[u64; 1148]) -> u64
 
 // How many alerts there were.
 #[no_mangle]
-pub extern "C" fn mokyndu_total_alerts_in_place(m: &[u64; 1148]) -> u64
+pub extern "C" fn mokyndu_total_alerts_in_place(m: &[u64; WORDS]) -> u64
     ensures { λ r. ⌜ r ≡ totalAlerts (monitorOf (now (m .entry))) ⌝ }
 {
     total_on(m, TOTAL_ALERTS)
@@ -280,7 +281,7 @@ pub extern "C" fn mokyndu_total_alerts_in_place(m: &[u64; 1148]) -> u64
 
 // 1 for a strict monitor.
 #[no_mangle]
-pub extern "C" fn mokyndu_strict_mode_in_place(m: &[u64; 1148]) -> u8
+pub extern "C" fn mokyndu_strict_mode_in_place(m: &[u64; WORDS]) -> u8
     ensures { λ r. ⌜ r ≡ flagNumber (strictMode (monitorOf (now (m .entry)))) ⌝ }
 {
     flag_number(flag_on(m, STRICT_MODE))

@@ -5,11 +5,12 @@ ghost use Rattle.monitor.specs.Monitor.{monitorOf};
 ghost use Rattle.monitor.specs.Parts.{timeFieldOn};
 ghost use Rattle.monitor.specs.Settings.{timeMaxForwardJump};
 use checks::time_field::has_clock;
+use monitor::parts::WORDS;
 use monitor::parts::check_time_field_on;
 use monitor::settings::time_max_forward_jump_s_on;
 
 // Checks a frame's time by the monitor's limit, and answers whether it alerts.
-pub fn clock_checked(m: &mut [u64; 1148], address: u64, seconds: u32, fraction: u32) -> bool
+pub fn clock_checked(m: &mut [u64; WORDS], address: u64, seconds: u32, fraction: u32) -> bool
     ensures { λ r. ⌜ record { monitor = monitorOf (now (m .exit)); answer = r }
         ≡ timeFieldOn (monitorOf (now (m .entry))) (timeMaxForwardJump (monitorOf (now (m .entry)))) address (seconds, fraction) ⌝ }
 {

@@ -6,11 +6,18 @@ ghost use Rattle.checks.specs.Keys.{reservationKey};
 ghost use Rattle.monitor.specs.Monitor.{monitorOf};
 ghost use Rattle.monitor.specs.Parts.{cbOn};
 use checks::keys::reservation_key;
+use monitor::parts::WORDS;
 use monitor::parts::check_cb_on;
 use monitor::parts::no_reservations_on;
 
 // Whether a control block or data set of this name is bound to another address; its first use binds it. Without reservations no key is made.
-pub fn hijacked(m: &mut [u64; 1148], is_goose: bool, name: &[u8; 64], len: u8, address: u64) -> bool
+pub fn hijacked(
+    m: &mut [u64; WORDS],
+    is_goose: bool,
+    name: &[u8; 64],
+    len: u8,
+    address: u64,
+) -> bool
     ensures { λ r. ⌜ record { monitor = monitorOf (now (m .exit)); answer = r }
         ≡ cbOn (monitorOf (now (m .entry))) (reservationKey «is_goose» (nameOf (now (name .entry)) len)) address ⌝ }
 {

@@ -19,6 +19,7 @@ use crate::inspect_sv::RawSv;
 use crate::inspect_sv::inspect_raw_sv_on;
 use crate::inspect_sv::inspect_sv_on;
 use checks::rules::Added;
+use monitor::parts::WORDS;
 use monitor::parts::add_goose_publisher_on;
 use monitor::parts::add_mms_rule_on;
 use monitor::parts::add_sv_publisher_on;
@@ -46,7 +47,7 @@ use records::schedule::RetxSchedule;
 // The whole state: what an entry takes and gives back.
 #[repr(C)]
 pub struct Iec61850Monitor {
-    pub words: [u64; 1148],
+    pub words: [u64; WORDS],
 }
 
 // The monitor after an add call, with the answer.
@@ -71,7 +72,7 @@ pub struct RawInspected {
 fn fresh(strict_mode: bool) -> Iec61850Monitor
     ensures { λ r. ⌜ monitorOf (r .words) ≡ newMonitor «strict_mode» ⌝ }
 {
-    let mut out = Iec61850Monitor { words: [0; 1148] };
+    let mut out = Iec61850Monitor { words: [0; WORDS] };
     new_on(&mut out.words, strict_mode);
     out
 }

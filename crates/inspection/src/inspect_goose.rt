@@ -22,6 +22,7 @@ use crate::report::report_on;
 use crate::report::verdict_on;
 use checks::keys::goose_key;
 use checks::keys::plain_key;
+use monitor::parts::WORDS;
 use monitor::parts::check_goose_seq_on;
 use monitor::parts::goose_publisher_count_on;
 use monitor::parts::goose_publisher_on;
@@ -76,7 +77,7 @@ fn goose_alerts(clock: bool, replay: bool, outside: bool) -> CheckAlerts
 }
 
 // Whether a retransmission is outside tolerance; asked only with enforcement on.
-fn retransmitted(m: &[u64; 1148], n: GooseNumbers) -> bool
+fn retransmitted(m: &[u64; WORDS], n: GooseNumbers) -> bool
     ensures { λ r. ⌜ r ≡ retransmitted (monitorOf (now (m .entry))) n ⌝ }
 {
     if flag_on(m, RETX_ENFORCE) {
@@ -88,7 +89,7 @@ fn retransmitted(m: &[u64; 1148], n: GooseNumbers) -> bool
 }
 
 // 12, 13: the clock; the stream, also after a clock alert, with the retransmission looked up before anything of it is stored.
-fn goose_time_field(m: &mut [u64; 1148], n: GooseNumbers) -> CheckAlerts
+fn goose_time_field(m: &mut [u64; WORDS], n: GooseNumbers) -> CheckAlerts
     ensures { λ r. ⌜ record { monitor = monitorOf (now (m .exit)); answer = alertsOf r } ≡ gooseTimeField n (monitorOf (now (m .entry))) ⌝ }
 {
     let clock = clock_checked(m, n.address, n.seconds, n.fraction);
@@ -99,7 +100,7 @@ fn goose_time_field(m: &mut [u64; 1148], n: GooseNumbers) -> CheckAlerts
 }
 
 // 11: the control block's reservation.
-fn goose_reservation(m: &mut [u64; 1148], name: &[u8; 64], len: u8, n: GooseNumbers) -> CheckAlerts
+fn goose_reservation(m: &mut [u64; WORDS], name: &[u8; 64], len: u8, n: GooseNumbers) -> CheckAlerts
     ensures { λ r. ⌜ record { monitor = monitorOf (now (m .exit)); answer = alertsOf r }
         ≡ gooseReservation n (reservationKey true (nameOf (now (name .entry)) len)) (monitorOf (now (m .entry))) ⌝ }
 {
@@ -110,7 +111,7 @@ fn goose_reservation(m: &mut [u64; 1148], name: &[u8; 64], len: u8, n: GooseNumb
 }
 
 // 10: whether publishers exist and none fits.
-fn goose_unknown(m: &[u64; 1148], address: u64, name: &[u8; 64], len: u8) -> bool
+fn goose_unknown(m: &[u64; WORDS], address: u64, name: &[u8; 64], len: u8) -> bool
     ensures { λ r. ⌜ r ≡ gooseUnknown (monitorOf (now (m .entry))) address (plainKey (nameOf (now (name .entry)) len)) ⌝ }
 {
     if goose_publisher_count_on(m) == 0 {
@@ -123,7 +124,7 @@ fn goose_unknown(m: &[u64; 1148], address: u64, name: &[u8; 64], len: u8) -> boo
 }
 
 // 9: whether a frame is a test frame while blocked.
-fn goose_blocked(m: &[u64; 1148], test: bool) -> bool
+fn goose_blocked(m: &[u64; WORDS], test: bool) -> bool
     ensures { λ r. ⌜ r ≡ blocked (monitorOf (now (m .entry))) test ⌝ }
 {
     if test {
@@ -134,7 +135,7 @@ fn goose_blocked(m: &[u64; 1148], test: bool) -> bool
 
 // The checks of a GOOSE frame, by the octets of its control block's name: keys are made of them only where there are publishers or reservations.
 pub fn goose_checks_on(
-    m: &mut [u64; 1148],
+    m: &mut [u64; WORDS],
     name: &[u8; 64],
     len: u8,
     n: GooseNumbers,
@@ -161,7 +162,7 @@ pub fn name_hash(name: &[u8], len: u8) -> u32
 }
 
 // Counts and checks a GOOSE frame.
-fn check_goose_on(m: &mut [u64; 1148], frame: GooseFrame) -> CheckAlerts
+fn check_goose_on(m: &mut [u64; WORDS], frame: GooseFrame) -> CheckAlerts
     ensures { λ r. ⌜ record { monitor = monitorOf (now (m .exit)); answer = alertsOf r } ≡ checkedGoose (monitorOf (now (m .entry))) frame ⌝ }
 {
     let src_mac = frame.src_mac;
@@ -181,7 +182,7 @@ fn check_goose_on(m: &mut [u64; 1148], frame: GooseFrame) -> CheckAlerts
 }
 
 // Inspects a GOOSE frame.
-pub fn inspect_goose_on(m: &mut [u64; 1148], frame: GooseFrame) -> InspectResult
+pub fn inspect_goose_on(m: &mut [u64; WORDS], frame: GooseFrame) -> InspectResult
     ensures { λ r. ⌜ record { monitor = monitorOf (now (m .exit)); answer = r } ≡ inspectGoose (monitorOf (now (m .entry))) frame ⌝ }
 {
     let alerts = check_goose_on(m, frame);
@@ -195,7 +196,7 @@ pub fn inspect_goose_on(m: &mut [u64; 1148], frame: GooseFrame) -> InspectResult
 }
 
 // The same, and answers the verdict.
-pub fn goose_verdict_on(m: &mut [u64; 1148], frame: GooseFrame) -> [u8; 8]
+pub fn goose_verdict_on(m: &mut [u64; WORDS], frame: GooseFrame) -> [u8; 8]
     ensures { λ r. ⌜ record { monitor = monitorOf (now (m .exit)); answer = r } ≡ withVerdict (inspectGoose (monitorOf (now (m .entry))) frame) ⌝ }
 {
     let alerts = check_goose_on(m, frame);

@@ -14,6 +14,7 @@ use crate::report::report_on;
 use crate::report::verdict_on;
 use checks::keys::reservation_key;
 use checks::mms_rule::has_bit;
+use monitor::parts::WORDS;
 use monitor::parts::first_rule_on;
 use monitor::parts::mms_rule_count_on;
 use monitor::parts::rate_check_on;
@@ -56,7 +57,7 @@ fn masked(mask: u64, raw: u8) -> bool
 }
 
 // What the rule that applies says of a frame, or the lack of one.
-fn mms_applying(m: &[u64; 1148], found: Found, write: bool) -> RuleCheck
+fn mms_applying(m: &[u64; WORDS], found: Found, write: bool) -> RuleCheck
     ensures { λ r. ⌜ r ≡ mmsApplying (strictMode (monitorOf (now (m .entry)))) (monitorOf (now (m .entry)) .«mms_rules») write found ⌝ }
 {
     match found {
@@ -77,7 +78,7 @@ fn mms_applying(m: &[u64; 1148], found: Found, write: bool) -> RuleCheck
 }
 
 // 4 to 6 and 8: the mask, read-only mode, and the first rule that applies. Masks use the raw number.
-fn mms_rule(m: &[u64; 1148], raw: u8, write: bool) -> RuleCheck
+fn mms_rule(m: &[u64; WORDS], raw: u8, write: bool) -> RuleCheck
     ensures { λ r. ⌜ r ≡ mmsRule (monitorOf (now (m .entry))) raw write ⌝ }
 {
     if masked(setting_on(m, MMS_SERVICE_MASK), raw) {
@@ -119,7 +120,7 @@ fn control_key(domain: &[u8; 64], n: MmsNumbers) -> [u64; 10]
 }
 
 // The control action of a frame, by the service and not its raw number: SelectControl 11 reserves the control block that it names.
-fn mms_control(m: &mut [u64; 1148], domain: &[u8; 64], n: MmsNumbers) -> CheckAlerts
+fn mms_control(m: &mut [u64; WORDS], domain: &[u8; 64], n: MmsNumbers) -> CheckAlerts
     ensures { λ r. ⌜ record { monitor = monitorOf (now (m .exit)); answer = alertsOf r }
         ≡ mmsControl (record { domain = now (domain .entry); numbers = n }) (monitorOf (now (m .entry))) ⌝ }
 {
@@ -137,7 +138,7 @@ fn mms_control(m: &mut [u64; 1148], domain: &[u8; 64], n: MmsNumbers) -> CheckAl
 }
 
 // Whether a request is over the rate of its rule; a rate of 0 is no limit.
-fn over_rate(m: &mut [u64; 1148], invoke_id: u32, rate: u16, now_us: u64) -> bool
+fn over_rate(m: &mut [u64; WORDS], invoke_id: u32, rate: u16, now_us: u64) -> bool
     ensures { λ r. ⌜ record { monitor = monitorOf (now (m .exit)); answer = r } ≡ overRate (monitorOf (now (m .entry))) «invoke_id» rate «now_us» ⌝ }
 {
     if rate == 0 {
@@ -147,7 +148,7 @@ fn over_rate(m: &mut [u64; 1148], invoke_id: u32, rate: u16, now_us: u64) -> boo
 }
 
 // 7: the bucket of a rule with a rate, then the control action.
-fn mms_rate(m: &mut [u64; 1148], domain: &[u8; 64], n: MmsNumbers, rate: u16) -> CheckAlerts
+fn mms_rate(m: &mut [u64; WORDS], domain: &[u8; 64], n: MmsNumbers, rate: u16) -> CheckAlerts
     ensures { λ r. ⌜ record { monitor = monitorOf (now (m .exit)); answer = alertsOf r }
         ≡ mmsRate (record { domain = now (domain .entry); numbers = n }) rate (monitorOf (now (m .entry))) ⌝ }
 {
@@ -158,7 +159,7 @@ fn mms_rate(m: &mut [u64; 1148], domain: &[u8; 64], n: MmsNumbers, rate: u16) ->
 }
 
 // The checks of an MMS frame.
-pub fn mms_checks_on(m: &mut [u64; 1148], domain: &[u8; 64], n: MmsNumbers) -> CheckAlerts
+pub fn mms_checks_on(m: &mut [u64; WORDS], domain: &[u8; 64], n: MmsNumbers) -> CheckAlerts
     ensures { λ r. ⌜ record { monitor = monitorOf (now (m .exit)); answer = alertsOf r }
         ≡ mmsChecks (monitorOf (now (m .entry))) (record { domain = now (domain .entry); numbers = n }) ⌝ }
 {
@@ -169,7 +170,7 @@ pub fn mms_checks_on(m: &mut [u64; 1148], domain: &[u8; 64], n: MmsNumbers) -> C
 }
 
 // Counts and checks an MMS frame.
-fn check_mms_on(m: &mut [u64; 1148], frame: MmsFrame) -> CheckAlerts
+fn check_mms_on(m: &mut [u64; WORDS], frame: MmsFrame) -> CheckAlerts
     ensures { λ r. ⌜ record { monitor = monitorOf (now (m .exit)); answer = alertsOf r } ≡ checkedMms (monitorOf (now (m .entry))) frame ⌝ }
 {
     let service = frame.service_type;
@@ -188,7 +189,7 @@ fn check_mms_on(m: &mut [u64; 1148], frame: MmsFrame) -> CheckAlerts
 }
 
 // Inspects an MMS frame.
-pub fn inspect_mms_on(m: &mut [u64; 1148], frame: MmsFrame) -> InspectResult
+pub fn inspect_mms_on(m: &mut [u64; WORDS], frame: MmsFrame) -> InspectResult
     ensures { λ r. ⌜ record { monitor = monitorOf (now (m .exit)); answer = r } ≡ inspectMms (monitorOf (now (m .entry))) frame ⌝ }
 {
     let alerts = check_mms_on(m, frame);
@@ -202,7 +203,7 @@ pub fn inspect_mms_on(m: &mut [u64; 1148], frame: MmsFrame) -> InspectResult
 }
 
 // The same, and answers the verdict.
-pub fn mms_verdict_on(m: &mut [u64; 1148], frame: MmsFrame) -> [u8; 8]
+pub fn mms_verdict_on(m: &mut [u64; WORDS], frame: MmsFrame) -> [u8; 8]
     ensures { λ r. ⌜ record { monitor = monitorOf (now (m .exit)); answer = r } ≡ withVerdict (inspectMms (monitorOf (now (m .entry))) frame) ⌝ }
 {
     let alerts = check_mms_on(m, frame);

@@ -24,6 +24,7 @@ use crate::report::verdict_on;
 use checks::keys::plain_key;
 use checks::sv_publisher::PublisherMatch;
 use checks::sv_seq::SvSeqOutcome;
+use monitor::parts::WORDS;
 use monitor::parts::check_sv_seq_on;
 use monitor::parts::publisher_rate_on;
 use monitor::parts::sv_publisher_count_on;
@@ -110,7 +111,7 @@ fn sv_alerts(
 }
 
 // 17 to 20: the clock; the count, also after a clock alert; the rate.
-fn sv_time_field(m: &mut [u64; 1148], svid: &[u64; 10], n: SvNumbers, rate: u16) -> CheckAlerts
+fn sv_time_field(m: &mut [u64; WORDS], svid: &[u64; 10], n: SvNumbers, rate: u16) -> CheckAlerts
     ensures { λ r. ⌜ record { monitor = monitorOf (now (m .exit)); answer = alertsOf r }
         ≡ svTimeField (now (svid .entry)) n rate (monitorOf (now (m .entry))) ⌝ }
 {
@@ -121,7 +122,7 @@ fn sv_time_field(m: &mut [u64; 1148], svid: &[u64; 10], n: SvNumbers, rate: u16)
 }
 
 // The use of a data set by an address, and whether it is bound to another. Most frames name none: no key is made of it.
-fn dataset_hijacked(m: &mut [u64; 1148], dataset: &[u8; 64], len: u8, address: u64) -> bool
+fn dataset_hijacked(m: &mut [u64; WORDS], dataset: &[u8; 64], len: u8, address: u64) -> bool
     ensures { λ r. ⌜ record { monitor = monitorOf (now (m .exit)); answer = r }
         ≡ cbOn (monitorOf (now (m .entry))) (reservationKey false (nameOf (now (dataset .entry)) len)) address ⌝ }
 {
@@ -133,7 +134,7 @@ fn dataset_hijacked(m: &mut [u64; 1148], dataset: &[u8; 64], len: u8, address: u
 
 // 16: the data set's reservation.
 fn sv_reservation(
-    m: &mut [u64; 1148],
+    m: &mut [u64; WORDS],
     svid: &[u64; 10],
     dataset: &[u8; 64],
     dataset_len: u8,
@@ -150,7 +151,7 @@ fn sv_reservation(
 }
 
 // 14, 15: what the publishers say of a frame. Where there are none, none is searched for.
-fn sv_rule(m: &[u64; 1148], address: u64, svid: &[u64; 10]) -> RuleCheck
+fn sv_rule(m: &[u64; WORDS], address: u64, svid: &[u64; 10]) -> RuleCheck
     ensures { λ r. ⌜ r ≡ svRule (monitorOf (now (m .entry))) address (now (svid .entry)) ⌝ }
 {
     let count = sv_publisher_count_on(m);
@@ -171,7 +172,7 @@ fn sv_rule(m: &[u64; 1148], address: u64, svid: &[u64; 10]) -> RuleCheck
 
 // The checks of an SV frame, by the key of its svID and the octets of its data set's name.
 pub fn sv_checks_on(
-    m: &mut [u64; 1148],
+    m: &mut [u64; WORDS],
     svid: &[u64; 10],
     dataset: &[u8; 64],
     dataset_len: u8,
@@ -187,7 +188,7 @@ pub fn sv_checks_on(
 }
 
 // Counts and checks an SV frame.
-fn check_sv_on(m: &mut [u64; 1148], frame: SvFrame) -> CheckAlerts
+fn check_sv_on(m: &mut [u64; WORDS], frame: SvFrame) -> CheckAlerts
     ensures { λ r. ⌜ record { monitor = monitorOf (now (m .exit)); answer = alertsOf r } ≡ checkedSv (monitorOf (now (m .entry))) frame ⌝ }
 {
     let src_mac = frame.src_mac;
@@ -210,7 +211,7 @@ fn check_sv_on(m: &mut [u64; 1148], frame: SvFrame) -> CheckAlerts
 }
 
 // Inspects an SV frame.
-pub fn inspect_sv_on(m: &mut [u64; 1148], frame: SvFrame) -> InspectResult
+pub fn inspect_sv_on(m: &mut [u64; WORDS], frame: SvFrame) -> InspectResult
     ensures { λ r. ⌜ record { monitor = monitorOf (now (m .exit)); answer = r } ≡ inspectSv (monitorOf (now (m .entry))) frame ⌝ }
 {
     let alerts = check_sv_on(m, frame);
@@ -224,7 +225,7 @@ pub fn inspect_sv_on(m: &mut [u64; 1148], frame: SvFrame) -> InspectResult
 }
 
 // The same, and answers the verdict.
-pub fn sv_verdict_on(m: &mut [u64; 1148], frame: SvFrame) -> [u8; 8]
+pub fn sv_verdict_on(m: &mut [u64; WORDS], frame: SvFrame) -> [u8; 8]
     ensures { λ r. ⌜ record { monitor = monitorOf (now (m .exit)); answer = r } ≡ withVerdict (inspectSv (monitorOf (now (m .entry))) frame) ⌝ }
 {
     let alerts = check_sv_on(m, frame);
@@ -232,7 +233,7 @@ pub fn sv_verdict_on(m: &mut [u64; 1148], frame: SvFrame) -> [u8; 8]
 }
 
 // Inspects a raw SV frame. One that cannot be read leaves the monitor, and is not allowed.
-pub fn inspect_raw_sv_on(m: &mut [u64; 1148], bytes: &[u8], timestamp_us: u64) -> RawSv
+pub fn inspect_raw_sv_on(m: &mut [u64; WORDS], bytes: &[u8], timestamp_us: u64) -> RawSv
     ensures { λ r. ⌜ record { monitor = monitorOf (now (m .exit)); answer = r }
         ≡ inspectRawSv (monitorOf (now (m .entry))) (now (bytes .entry)) «timestamp_us» ⌝ }
 {

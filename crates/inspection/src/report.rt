@@ -7,6 +7,7 @@ ghost use mathlib.Core.List.{foldl};
 ghost use Rattle.monitor.specs.Monitor.{monitorOf};
 ghost use Rattle.inspection.specs.Report.{findingOf, findingsOf, alertsOf, clockFindings, reportedNext, alertsPushed, ended, reported};
 ghost use Rattle.inspection.specs.Report.{isNothing, noneFound, cleanVerdict, allowedOctet, alertNoted, withVerdict};
+use monitor::parts::WORDS;
 use monitor::totals::alert_counters_on;
 use monitor::totals::set_alert_counters_on;
 use records::alert::AlertCode;
@@ -227,7 +228,7 @@ fn push_alerts(
 
 // The result that reports what the checks found, in a monitor. Most frames have no alert: the counters are left, and a clean result is answered at once.
 pub fn report_on(
-    m: &mut [u64; 1148],
+    m: &mut [u64; WORDS],
     alerts: CheckAlerts,
     source_type: u8,
     source_id: u32,
@@ -320,7 +321,7 @@ fn verdict_of(counters: AlertCounters, alerts: CheckAlerts) -> Noted
 }
 
 // The verdict that reports what the checks found, in a monitor. No result is made.
-fn noted_on(m: &mut [u64; 1148], alerts: CheckAlerts) -> [u8; 8]
+fn noted_on(m: &mut [u64; WORDS], alerts: CheckAlerts) -> [u8; 8]
     ensures { λ r. ⌜ ((source sourceNumber time : ℕ) → record { monitor = monitorOf (now (m .exit)); answer = r }
         ≡ withVerdict (reported source sourceNumber time (ended (monitorOf (now (m .entry))) (alertsOf alerts)))) ⌝ }
 {
@@ -331,7 +332,7 @@ fn noted_on(m: &mut [u64; 1148], alerts: CheckAlerts) -> [u8; 8]
 }
 
 // The same. Most frames have no alert, and get their verdict at once.
-pub fn verdict_on(m: &mut [u64; 1148], alerts: CheckAlerts) -> [u8; 8]
+pub fn verdict_on(m: &mut [u64; WORDS], alerts: CheckAlerts) -> [u8; 8]
     ensures { λ r. ⌜ ((source sourceNumber time : ℕ) → record { monitor = monitorOf (now (m .exit)); answer = r }
         ≡ withVerdict (reported source sourceNumber time (ended (monitorOf (now (m .entry))) (alertsOf alerts)))) ⌝ }
 {

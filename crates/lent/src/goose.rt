@@ -15,6 +15,7 @@ use inspection::inspect_goose::goose_checks_on;
 use inspection::inspect_goose::name_hash;
 use inspection::report::CheckAlerts;
 use inspection::report::verdict_on;
+use monitor::parts::WORDS;
 use monitor::totals::GOOSE_TOTAL_INSPECTED;
 use monitor::totals::count_frame_on;
 
@@ -36,7 +37,7 @@ fn goose_numbers(o: &[u8]) -> GooseNumbers
 }
 
 // Counts and checks a frame.
-fn check_goose_lent(m: &mut [u64; 1148], o: &[u8]) -> CheckAlerts
+fn check_goose_lent(m: &mut [u64; WORDS], o: &[u8]) -> CheckAlerts
     requires { ⌜ length (now o) ≡ 104 ⌝ }
     ensures { λ r. ⌜ record { monitor = monitorOf (now (m .exit)); answer = alertsOf r }
         ≡ checkedGoose (monitorOf (now (m .entry))) (gooseFrameOf (now (o .entry))) ⌝ }
@@ -47,7 +48,7 @@ fn check_goose_lent(m: &mut [u64; 1148], o: &[u8]) -> CheckAlerts
 }
 
 // Inspects a frame, and answers the verdict.
-pub fn goose_verdict_lent(m: &mut [u64; 1148], octets: &[u8; 104]) -> [u8; 8]
+pub fn goose_verdict_lent(m: &mut [u64; WORDS], octets: &[u8; 104]) -> [u8; 8]
     ensures { λ r. ⌜ record { monitor = monitorOf (now (m .exit)); answer = r }
         ≡ withVerdict (inspectGoose (monitorOf (now (m .entry))) (gooseFrameOf (now (octets .entry)))) ⌝ }
 {

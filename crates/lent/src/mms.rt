@@ -12,6 +12,7 @@ use inspection::inspect_mms::MmsNumbers;
 use inspection::inspect_mms::mms_checks_on;
 use inspection::report::CheckAlerts;
 use inspection::report::verdict_on;
+use monitor::parts::WORDS;
 use monitor::totals::MMS_TOTAL_INSPECTED;
 use monitor::totals::count_frame_on;
 use records::service::MmsServiceType;
@@ -35,7 +36,7 @@ fn mms_numbers(o: &[u8]) -> MmsNumbers
 }
 
 // Counts and checks a frame.
-fn check_mms_lent(m: &mut [u64; 1148], o: &[u8]) -> CheckAlerts
+fn check_mms_lent(m: &mut [u64; WORDS], o: &[u8]) -> CheckAlerts
     requires { ⌜ length (now o) ≡ 88 ⌝ }
     ensures { λ r. ⌜ record { monitor = monitorOf (now (m .exit)); answer = alertsOf r }
         ≡ checkedMms (monitorOf (now (m .entry))) (mmsFrameOf (now (o .entry))) ⌝ }
@@ -47,7 +48,7 @@ fn check_mms_lent(m: &mut [u64; 1148], o: &[u8]) -> CheckAlerts
 }
 
 // Inspects a frame, and answers the verdict.
-pub fn mms_verdict_lent(m: &mut [u64; 1148], octets: &[u8; 88]) -> [u8; 8]
+pub fn mms_verdict_lent(m: &mut [u64; WORDS], octets: &[u8; 88]) -> [u8; 8]
     ensures { λ r. ⌜ record { monitor = monitorOf (now (m .exit)); answer = r }
         ≡ withVerdict (inspectMms (monitorOf (now (m .entry))) (mmsFrameOf (now (octets .entry)))) ⌝ }
 {

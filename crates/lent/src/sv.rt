@@ -15,6 +15,7 @@ use inspection::inspect_sv::SvNumbers;
 use inspection::inspect_sv::sv_checks_on;
 use inspection::report::CheckAlerts;
 use inspection::report::verdict_on;
+use monitor::parts::WORDS;
 use monitor::totals::SV_TOTAL_INSPECTED;
 use monitor::totals::count_frame_on;
 
@@ -33,7 +34,7 @@ fn sv_numbers(o: &[u8]) -> SvNumbers
 }
 
 // Counts and checks a frame. A key or name that is made where it is lent is not copied once more.
-pub fn check_sv_lent(m: &mut [u64; 1148], o: &[u8]) -> CheckAlerts
+pub fn check_sv_lent(m: &mut [u64; WORDS], o: &[u8]) -> CheckAlerts
     requires { ⌜ length (now o) ≡ 160 ⌝ }
     ensures { λ r. ⌜ record { monitor = monitorOf (now (m .exit)); answer = alertsOf r }
         ≡ checkedSv (monitorOf (now (m .entry))) (svFrameOf (now (o .entry))) ⌝ }
@@ -50,7 +51,7 @@ pub fn check_sv_lent(m: &mut [u64; 1148], o: &[u8]) -> CheckAlerts
 }
 
 // Inspects a frame, and answers the verdict.
-pub fn sv_verdict_lent(m: &mut [u64; 1148], octets: &[u8; 160]) -> [u8; 8]
+pub fn sv_verdict_lent(m: &mut [u64; WORDS], octets: &[u8; 160]) -> [u8; 8]
     ensures { λ r. ⌜ record { monitor = monitorOf (now (m .exit)); answer = r }
         ≡ withVerdict (inspectSv (monitorOf (now (m .entry))) (svFrameOf (now (octets .entry)))) ⌝ }
 {

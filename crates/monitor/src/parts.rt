@@ -33,15 +33,44 @@ use records::schedule::RetxSchedule;
 use records::search::Found;
 use tables::order::no_entries;
 
+// Where each part begins, behind the settings; it ends where the next begins.
+pub const TOTALS: usize = 10;
+
+pub const MMS_RULES: usize = 15;
+
+pub const GOOSE_PUBLISHERS: usize = 64;
+
+pub const SV_PUBLISHERS: usize = 241;
+
+pub const RATE_BUCKETS: usize = 434;
+
+pub const GOOSE_SEQ: usize = 500;
+
+pub const SV_SEQ: usize = 710;
+
+pub const TIME_TRACKERS: usize = 888;
+
+pub const CB_RESERVATIONS: usize = 938;
+
+// How many words a monitor has.
+pub const WORDS: usize = 1148;
+
+// Where the counts of rules stand: each is the last word of its part.
+const MMS_RULE_COUNT: usize = GOOSE_PUBLISHERS - 1;
+
+const GOOSE_PUBLISHER_COUNT: usize = SV_PUBLISHERS - 1;
+
+const SV_PUBLISHER_COUNT: usize = RATE_BUCKETS - 1;
+
 // Checks a frame's count.
 fn check_sv_seq_lent(m: &mut [u64], svid: &[u64; 10], smp_cnt: u16) -> SvSeqOutcome
     requires { ⌜ length (now m) ≡ 1148 ⌝ }
     ensures { λ r. ⌜ record { monitor = monitorOf (now (m .exit)); answer = r } ≡ svSeqOn (monitorOf (now (m .entry))) (now (svid .entry)) «smp_cnt» ⌝ }
 {
-    check_sv_seq_in(&mut m[710..888], svid, smp_cnt)
+    check_sv_seq_in(&mut m[SV_SEQ..TIME_TRACKERS], svid, smp_cnt)
 }
 
-pub fn check_sv_seq_on(m: &mut [u64; 1148], svid: &[u64; 10], smp_cnt: u16) -> SvSeqOutcome
+pub fn check_sv_seq_on(m: &mut [u64; WORDS], svid: &[u64; 10], smp_cnt: u16) -> SvSeqOutcome
     ensures { λ r. ⌜ record { monitor = monitorOf (now (m .exit)); answer = r } ≡ svSeqOn (monitorOf (now (m .entry))) (now (svid .entry)) «smp_cnt» ⌝ }
 {
     check_sv_seq_lent(m, svid, smp_cnt)
@@ -59,11 +88,11 @@ fn check_goose_seq_lent(
     ensures { λ r. ⌜ record { monitor = monitorOf (now (m .exit)); answer = r }
         ≡ gooseSeqOn (monitorOf (now (m .entry))) (now (key .entry)) ((«st_num», «sq_num»), «now_us») ⌝ }
 {
-    check_goose_seq_in(&mut m[500..710], key, st_num, sq_num, now_us)
+    check_goose_seq_in(&mut m[GOOSE_SEQ..SV_SEQ], key, st_num, sq_num, now_us)
 }
 
 pub fn check_goose_seq_on(
-    m: &mut [u64; 1148],
+    m: &mut [u64; WORDS],
     key: &[u64; 10],
     st_num: u32,
     sq_num: u32,
@@ -86,11 +115,17 @@ fn check_time_field_lent(
     requires { ⌜ length (now m) ≡ 1148 ⌝ }
     ensures { λ r. ⌜ record { monitor = monitorOf (now (m .exit)); answer = r } ≡ timeFieldOn (monitorOf (now (m .entry))) limit address (seconds, fraction) ⌝ }
 {
-    check_time_field_in(&mut m[888..938], limit, address, seconds, fraction)
+    check_time_field_in(
+        &mut m[TIME_TRACKERS..CB_RESERVATIONS],
+        limit,
+        address,
+        seconds,
+        fraction,
+    )
 }
 
 pub fn check_time_field_on(
-    m: &mut [u64; 1148],
+    m: &mut [u64; WORDS],
     limit: u32,
     address: u64,
     seconds: u32,
@@ -106,10 +141,10 @@ fn rate_check_lent(m: &mut [u64], key: u32, max_rate: u16, now_us: u64) -> bool
     requires { ⌜ length (now m) ≡ 1148 ⌝ }
     ensures { λ r. ⌜ record { monitor = monitorOf (now (m .exit)); answer = r } ≡ rateOn (monitorOf (now (m .entry))) key «max_rate» «now_us» ⌝ }
 {
-    rate_check_in(&mut m[434..500], key, max_rate, now_us)
+    rate_check_in(&mut m[RATE_BUCKETS..GOOSE_SEQ], key, max_rate, now_us)
 }
 
-pub fn rate_check_on(m: &mut [u64; 1148], key: u32, max_rate: u16, now_us: u64) -> bool
+pub fn rate_check_on(m: &mut [u64; WORDS], key: u32, max_rate: u16, now_us: u64) -> bool
     ensures { λ r. ⌜ record { monitor = monitorOf (now (m .exit)); answer = r } ≡ rateOn (monitorOf (now (m .entry))) key «max_rate» «now_us» ⌝ }
 {
     rate_check_lent(m, key, max_rate, now_us)
@@ -120,10 +155,10 @@ fn check_cb_lent(m: &mut [u64], key: &[u64; 10], address: u64) -> bool
     requires { ⌜ length (now m) ≡ 1148 ⌝ }
     ensures { λ r. ⌜ record { monitor = monitorOf (now (m .exit)); answer = r } ≡ cbOn (monitorOf (now (m .entry))) (now (key .entry)) address ⌝ }
 {
-    check_cb_in(&mut m[938..1148], key, address)
+    check_cb_in(&mut m[CB_RESERVATIONS..WORDS], key, address)
 }
 
-pub fn check_cb_on(m: &mut [u64; 1148], key: &[u64; 10], address: u64) -> bool
+pub fn check_cb_on(m: &mut [u64; WORDS], key: &[u64; 10], address: u64) -> bool
     ensures { λ r. ⌜ record { monitor = monitorOf (now (m .exit)); answer = r } ≡ cbOn (monitorOf (now (m .entry))) (now (key .entry)) address ⌝ }
 {
     check_cb_lent(m, key, address)
@@ -134,10 +169,10 @@ fn no_reservations_lent(m: &[u64]) -> bool
     requires { ⌜ length (now m) ≡ 1148 ⌝ }
     ensures { λ r. ⌜ r ≡ allFree (monitorOf (now (m .entry)) .«cb_reservations») ⌝ }
 {
-    no_entries(&m[938..1148])
+    no_entries(&m[CB_RESERVATIONS..WORDS])
 }
 
-pub fn no_reservations_on(m: &[u64; 1148]) -> bool
+pub fn no_reservations_on(m: &[u64; WORDS]) -> bool
     ensures { λ r. ⌜ r ≡ allFree (monitorOf (now (m .entry)) .«cb_reservations») ⌝ }
 {
     no_reservations_lent(m)
@@ -148,10 +183,10 @@ fn reserve_cb_lent(m: &mut [u64], key: &[u64; 10], client: u32) -> bool
     requires { ⌜ length (now m) ≡ 1148 ⌝ }
     ensures { λ r. ⌜ record { monitor = monitorOf (now (m .exit)); answer = r } ≡ reservedOn (monitorOf (now (m .entry))) (now (key .entry)) client ⌝ }
 {
-    reserve_cb_in(&mut m[938..1148], key, client)
+    reserve_cb_in(&mut m[CB_RESERVATIONS..WORDS], key, client)
 }
 
-pub fn reserve_cb_on(m: &mut [u64; 1148], key: &[u64; 10], client: u32) -> bool
+pub fn reserve_cb_on(m: &mut [u64; WORDS], key: &[u64; 10], client: u32) -> bool
     ensures { λ r. ⌜ record { monitor = monitorOf (now (m .exit)); answer = r } ≡ reservedOn (monitorOf (now (m .entry))) (now (key .entry)) client ⌝ }
 {
     reserve_cb_lent(m, key, client)
@@ -162,10 +197,10 @@ fn release_cb_lent(m: &mut [u64], key: &[u64; 10], client: u32)
     requires { ⌜ length (now m) ≡ 1148 ⌝ }
     ensures { λ _. ⌜ monitorOf (now (m .exit)) ≡ releasedOn (monitorOf (now (m .entry))) (now (key .entry)) client ⌝ }
 {
-    release_cb_in(&mut m[938..1148], key, client);
+    release_cb_in(&mut m[CB_RESERVATIONS..WORDS], key, client);
 }
 
-pub fn release_cb_on(m: &mut [u64; 1148], key: &[u64; 10], client: u32)
+pub fn release_cb_on(m: &mut [u64; WORDS], key: &[u64; 10], client: u32)
     ensures { λ _. ⌜ monitorOf (now (m .exit)) ≡ releasedOn (monitorOf (now (m .entry))) (now (key .entry)) client ⌝ }
 {
     release_cb_lent(m, key, client);
@@ -176,10 +211,10 @@ fn add_mms_rule_lent(m: &mut [u64], mask: u16, read_only: bool, rate: u16) -> Ad
     requires { ⌜ length (now m) ≡ 1148 ⌝ }
     ensures { λ r. ⌜ record { monitor = monitorOf (now (m .exit)); answer = r } ≡ mmsAddedOn (monitorOf (now (m .entry))) mask «read_only» rate ⌝ }
 {
-    add_mms_rule_in(&mut m[15..64], mask, read_only, rate)
+    add_mms_rule_in(&mut m[MMS_RULES..GOOSE_PUBLISHERS], mask, read_only, rate)
 }
 
-pub fn add_mms_rule_on(m: &mut [u64; 1148], mask: u16, read_only: bool, rate: u16) -> Added
+pub fn add_mms_rule_on(m: &mut [u64; WORDS], mask: u16, read_only: bool, rate: u16) -> Added
     ensures { λ r. ⌜ record { monitor = monitorOf (now (m .exit)); answer = r } ≡ mmsAddedOn (monitorOf (now (m .entry))) mask «read_only» rate ⌝ }
 {
     add_mms_rule_lent(m, mask, read_only, rate)
@@ -190,10 +225,10 @@ fn add_goose_publisher_lent(m: &mut [u64], address: u64, name: &[u8]) -> Added
     requires { ⌜ length (now m) ≡ 1148 ⌝ }
     ensures { λ r. ⌜ record { monitor = monitorOf (now (m .exit)); answer = r } ≡ gooseAddedOn (monitorOf (now (m .entry))) address (now (name .entry)) ⌝ }
 {
-    add_goose_publisher_in(&mut m[64..241], address, name)
+    add_goose_publisher_in(&mut m[GOOSE_PUBLISHERS..SV_PUBLISHERS], address, name)
 }
 
-pub fn add_goose_publisher_on(m: &mut [u64; 1148], address: u64, name: &[u8]) -> Added
+pub fn add_goose_publisher_on(m: &mut [u64; WORDS], address: u64, name: &[u8]) -> Added
     ensures { λ r. ⌜ record { monitor = monitorOf (now (m .exit)); answer = r } ≡ gooseAddedOn (monitorOf (now (m .entry))) address (now (name .entry)) ⌝ }
 {
     add_goose_publisher_lent(m, address, name)
@@ -204,10 +239,10 @@ fn add_sv_publisher_lent(m: &mut [u64], address: u64, svid: &[u8], rate: u16) ->
     requires { ⌜ length (now m) ≡ 1148 ⌝ }
     ensures { λ r. ⌜ record { monitor = monitorOf (now (m .exit)); answer = r } ≡ svAddedOn (monitorOf (now (m .entry))) address (now (svid .entry)) rate ⌝ }
 {
-    add_sv_publisher_in(&mut m[241..434], address, svid, rate)
+    add_sv_publisher_in(&mut m[SV_PUBLISHERS..RATE_BUCKETS], address, svid, rate)
 }
 
-pub fn add_sv_publisher_on(m: &mut [u64; 1148], address: u64, svid: &[u8], rate: u16) -> Added
+pub fn add_sv_publisher_on(m: &mut [u64; WORDS], address: u64, svid: &[u8], rate: u16) -> Added
     ensures { λ r. ⌜ record { monitor = monitorOf (now (m .exit)); answer = r } ≡ svAddedOn (monitorOf (now (m .entry))) address (now (svid .entry)) rate ⌝ }
 {
     add_sv_publisher_lent(m, address, svid, rate)
@@ -218,10 +253,10 @@ fn first_rule_lent(m: &[u64], raw: u8) -> Found
     requires { ⌜ length (now m) ≡ 1148 ⌝ }
     ensures { λ r. ⌜ r ≡ firstRule (monitorOf (now (m .entry)) .«mms_rules») raw ⌝ }
 {
-    first_rule(&m[15..64], raw)
+    first_rule(&m[MMS_RULES..GOOSE_PUBLISHERS], raw)
 }
 
-pub fn first_rule_on(m: &[u64; 1148], raw: u8) -> Found
+pub fn first_rule_on(m: &[u64; WORDS], raw: u8) -> Found
     ensures { λ r. ⌜ r ≡ firstRule (monitorOf (now (m .entry)) .«mms_rules») raw ⌝ }
 {
     first_rule_lent(m, raw)
@@ -232,10 +267,10 @@ fn goose_publisher_lent(m: &[u64], address: u64, name: &[u64; 10]) -> Found
     requires { ⌜ length (now m) ≡ 1148 ⌝ }
     ensures { λ r. ⌜ r ≡ goosePublisher (monitorOf (now (m .entry)) .«goose_publishers») address (now (name .entry)) ⌝ }
 {
-    goose_publisher(&m[64..241], address, name)
+    goose_publisher(&m[GOOSE_PUBLISHERS..SV_PUBLISHERS], address, name)
 }
 
-pub fn goose_publisher_on(m: &[u64; 1148], address: u64, name: &[u64; 10]) -> Found
+pub fn goose_publisher_on(m: &[u64; WORDS], address: u64, name: &[u64; 10]) -> Found
     ensures { λ r. ⌜ r ≡ goosePublisher (monitorOf (now (m .entry)) .«goose_publishers») address (now (name .entry)) ⌝ }
 {
     goose_publisher_lent(m, address, name)
@@ -246,10 +281,10 @@ fn sv_publisher_lent(m: &[u64], address: u64, svid: &[u64; 10]) -> PublisherMatc
     requires { ⌜ length (now m) ≡ 1148 ⌝ }
     ensures { λ r. ⌜ r ≡ svPublisher (monitorOf (now (m .entry)) .«sv_publishers») address (now (svid .entry)) ⌝ }
 {
-    sv_publisher(&m[241..434], address, svid)
+    sv_publisher(&m[SV_PUBLISHERS..RATE_BUCKETS], address, svid)
 }
 
-pub fn sv_publisher_on(m: &[u64; 1148], address: u64, svid: &[u64; 10]) -> PublisherMatch
+pub fn sv_publisher_on(m: &[u64; WORDS], address: u64, svid: &[u64; 10]) -> PublisherMatch
     ensures { λ r. ⌜ r ≡ svPublisher (monitorOf (now (m .entry)) .«sv_publishers») address (now (svid .entry)) ⌝ }
 {
     sv_publisher_lent(m, address, svid)
@@ -267,11 +302,11 @@ fn retx_anomaly_lent(
     requires { ⌜ length (now m) ≡ 1148 ⌝ }
     ensures { λ r. ⌜ r ≡ retxChecked schedule (monitorOf (now (m .entry)) .«goose_seq») (now (key .entry)) ((«st_num», «sq_num»), «now_us») ⌝ }
 {
-    retx_anomaly(&m[500..710], key, schedule, st_num, sq_num, now_us)
+    retx_anomaly(&m[GOOSE_SEQ..SV_SEQ], key, schedule, st_num, sq_num, now_us)
 }
 
 pub fn retx_anomaly_on(
-    m: &[u64; 1148],
+    m: &[u64; WORDS],
     key: &[u64; 10],
     schedule: RetxSchedule,
     st_num: u32,
@@ -284,22 +319,22 @@ pub fn retx_anomaly_on(
 }
 
 // How many MMS rules, GOOSE publishers and SV publishers there are.
-pub fn mms_rule_count_on(m: &[u64; 1148]) -> u64
+pub fn mms_rule_count_on(m: &[u64; WORDS]) -> u64
     ensures { λ r. ⌜ r ≡ getD (monitorOf (now (m .entry)) .«mms_rules») 48 0 ⌝ }
 {
-    m[63]
+    m[MMS_RULE_COUNT]
 }
 
-pub fn goose_publisher_count_on(m: &[u64; 1148]) -> u64
+pub fn goose_publisher_count_on(m: &[u64; WORDS]) -> u64
     ensures { λ r. ⌜ r ≡ getD (monitorOf (now (m .entry)) .«goose_publishers») 176 0 ⌝ }
 {
-    m[240]
+    m[GOOSE_PUBLISHER_COUNT]
 }
 
-pub fn sv_publisher_count_on(m: &[u64; 1148]) -> u64
+pub fn sv_publisher_count_on(m: &[u64; WORDS]) -> u64
     ensures { λ r. ⌜ r ≡ getD (monitorOf (now (m .entry)) .«sv_publishers») 192 0 ⌝ }
 {
-    m[433]
+    m[SV_PUBLISHER_COUNT]
 }
 
 // Whether an MMS rule is read-only.
@@ -307,10 +342,10 @@ fn rule_read_only_lent(m: &[u64], place: usize) -> bool
     requires { ⌜ length (now m) ≡ 1148 ⌝ }
     ensures { λ r. ⌜ r ≡ ruleReadOnly (monitorOf (now (m .entry)) .«mms_rules») place ⌝ }
 {
-    rule_read_only(&m[15..64], place)
+    rule_read_only(&m[MMS_RULES..GOOSE_PUBLISHERS], place)
 }
 
-pub fn rule_read_only_on(m: &[u64; 1148], place: usize) -> bool
+pub fn rule_read_only_on(m: &[u64; WORDS], place: usize) -> bool
     ensures { λ r. ⌜ r ≡ ruleReadOnly (monitorOf (now (m .entry)) .«mms_rules») place ⌝ }
 {
     rule_read_only_lent(m, place)
@@ -321,10 +356,10 @@ fn rule_rate_lent(m: &[u64], place: usize) -> u16
     requires { ⌜ length (now m) ≡ 1148 ⌝ }
     ensures { λ r. ⌜ r ≡ ruleRate (monitorOf (now (m .entry)) .«mms_rules») place ⌝ }
 {
-    rule_rate(&m[15..64], place)
+    rule_rate(&m[MMS_RULES..GOOSE_PUBLISHERS], place)
 }
 
-pub fn rule_rate_on(m: &[u64; 1148], place: usize) -> u16
+pub fn rule_rate_on(m: &[u64; WORDS], place: usize) -> u16
     ensures { λ r. ⌜ r ≡ ruleRate (monitorOf (now (m .entry)) .«mms_rules») place ⌝ }
 {
     rule_rate_lent(m, place)
@@ -335,10 +370,10 @@ fn publisher_rate_lent(m: &[u64], place: usize) -> u16
     requires { ⌜ length (now m) ≡ 1148 ⌝ }
     ensures { λ r. ⌜ r ≡ publisherRate (monitorOf (now (m .entry)) .«sv_publishers») place ⌝ }
 {
-    publisher_rate(&m[241..434], place)
+    publisher_rate(&m[SV_PUBLISHERS..RATE_BUCKETS], place)
 }
 
-pub fn publisher_rate_on(m: &[u64; 1148], place: usize) -> u16
+pub fn publisher_rate_on(m: &[u64; WORDS], place: usize) -> u16
     ensures { λ r. ⌜ r ≡ publisherRate (monitorOf (now (m .entry)) .«sv_publishers») place ⌝ }
 {
     publisher_rate_lent(m, place)

@@ -8,6 +8,16 @@ ghost use Rattle.tables.specs.Column.{zeroWords};
 ghost use Rattle.tables.specs.Order.{noEntries};
 ghost use Rattle.monitor.specs.Monitor.{monitorOf, withTotals};
 ghost use Rattle.monitor.specs.Reset.{newTotals, newMonitor, resetMonitor};
+use crate::parts::CB_RESERVATIONS;
+use crate::parts::GOOSE_PUBLISHERS;
+use crate::parts::GOOSE_SEQ;
+use crate::parts::MMS_RULES;
+use crate::parts::RATE_BUCKETS;
+use crate::parts::SV_PUBLISHERS;
+use crate::parts::SV_SEQ;
+use crate::parts::TIME_TRACKERS;
+use crate::parts::TOTALS;
+use crate::parts::WORDS;
 use crate::settings::STRICT_MODE;
 use crate::settings::set_retx_schedule_on;
 use crate::settings::set_setting;
@@ -30,10 +40,10 @@ fn new_totals_lent(m: &mut [u64])
     requires { ⌜ length (now m) ≡ 1148 ⌝ }
     ensures { λ _. ⌜ monitorOf (now (m .exit)) ≡ withTotals (monitorOf (now (m .entry))) newTotals ⌝ }
 {
-    zero_totals(&mut m[10..15]);
+    zero_totals(&mut m[TOTALS..MMS_RULES]);
 }
 
-fn new_totals(m: &mut [u64; 1148])
+fn new_totals(m: &mut [u64; WORDS])
     ensures { λ _. ⌜ monitorOf (now (m .exit)) ≡ withTotals (monitorOf (now (m .entry))) newTotals ⌝ }
 {
     new_totals_lent(m);
@@ -48,7 +58,7 @@ fn zero_part_lent(m: &mut [u64], start: usize, end: usize)
 }
 
 // The contract says the length too, which a reference to an array does not tell a caller's proof.
-fn zero_part(m: &mut [u64; 1148], start: usize, end: usize)
+fn zero_part(m: &mut [u64; WORDS], start: usize, end: usize)
     requires { ⌜ (start ≤ end) × (end ≤ 1148) ⌝ }
     ensures { λ _. ⌜ (length (now (m .entry)) ≡ 1148)
         × (now (m .exit) ≡ putMid start (end - start) (now (m .entry)) (zeroWords (end - start))) ⌝ }
@@ -64,7 +74,7 @@ fn clear_part_lent(m: &mut [u64], start: usize, end: usize)
     clear(&mut m[start..end]);
 }
 
-fn clear_part(m: &mut [u64; 1148], start: usize, end: usize)
+fn clear_part(m: &mut [u64; WORDS], start: usize, end: usize)
     requires { ⌜ (start ≤ end) × (end ≤ 1148) ⌝ }
     ensures { λ _. ⌜ (length (now (m .entry)) ≡ 1148)
         × (now (m .exit) ≡ putMid start (end - start) (now (m .entry)) (noEntries (end - start))) ⌝ }
@@ -73,25 +83,25 @@ fn clear_part(m: &mut [u64; 1148], start: usize, end: usize)
 }
 
 // As new but for the settings: rules, tables, reservations and totals are gone.
-pub fn reset_on(m: &mut [u64; 1148])
+pub fn reset_on(m: &mut [u64; WORDS])
     ensures { λ _. ⌜ monitorOf (now (m .exit)) ≡ resetMonitor (monitorOf (now (m .entry))) ⌝ }
 {
     new_totals(m);
-    zero_part(m, 15, 64);
-    zero_part(m, 64, 241);
-    zero_part(m, 241, 434);
-    clear_part(m, 434, 500);
-    clear_part(m, 500, 710);
-    clear_part(m, 710, 888);
-    clear_part(m, 888, 938);
-    clear_part(m, 938, 1148);
+    zero_part(m, MMS_RULES, GOOSE_PUBLISHERS);
+    zero_part(m, GOOSE_PUBLISHERS, SV_PUBLISHERS);
+    zero_part(m, SV_PUBLISHERS, RATE_BUCKETS);
+    clear_part(m, RATE_BUCKETS, GOOSE_SEQ);
+    clear_part(m, GOOSE_SEQ, SV_SEQ);
+    clear_part(m, SV_SEQ, TIME_TRACKERS);
+    clear_part(m, TIME_TRACKERS, CB_RESERVATIONS);
+    clear_part(m, CB_RESERVATIONS, WORDS);
 }
 
 // A new monitor, strict or not, whatever stood there: nothing limited and nothing blocked; a schedule that is not enforced.
-pub fn new_on(m: &mut [u64; 1148], strict: bool)
+pub fn new_on(m: &mut [u64; WORDS], strict: bool)
     ensures { λ _. ⌜ monitorOf (now (m .exit)) ≡ newMonitor strict ⌝ }
 {
-    zero_part(m, 0, 10);
+    zero_part(m, 0, TOTALS);
     set_setting(m, STRICT_MODE, flag_word(strict));
     let schedule = RetxSchedule::default_8_1();
     set_retx_schedule_on(m, schedule, false);

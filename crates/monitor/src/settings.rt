@@ -7,6 +7,8 @@ ghost use Rattle.monitor.specs.Monitor.{monitorOf};
 ghost use Rattle.monitor.specs.Settings.{settingSet, setMmsServiceMask, setMmsReadOnly, setBlockTestFrames};
 ghost use Rattle.monitor.specs.Settings.{setSvMaxSmpCntGap, setRetxSchedule, setTimeMaxForwardJump};
 ghost use Rattle.monitor.specs.Settings.{setting, settingFlag, retxSchedule, timeMaxForwardJump};
+use crate::parts::TOTALS;
+use crate::parts::WORDS;
 use checks::keys::flag_word;
 use records::schedule::RetxSchedule;
 
@@ -43,10 +45,10 @@ fn set_setting_lent(m: &mut [u64], place: usize, v: u64)
     requires { ⌜ (length (now m) ≡ 1148) × (place < 10) ⌝ }
     ensures { λ _. ⌜ monitorOf (now (m .exit)) ≡ settingSet (monitorOf (now (m .entry))) place v ⌝ }
 {
-    store_setting(&mut m[0..10], place, v);
+    store_setting(&mut m[0..TOTALS], place, v);
 }
 
-pub fn set_setting(m: &mut [u64; 1148], place: usize, v: u64)
+pub fn set_setting(m: &mut [u64; WORDS], place: usize, v: u64)
     requires { ⌜ place < 10 ⌝ }
     ensures { λ _. ⌜ monitorOf (now (m .exit)) ≡ settingSet (monitorOf (now (m .entry))) place v ⌝ }
 {
@@ -54,35 +56,35 @@ pub fn set_setting(m: &mut [u64; 1148], place: usize, v: u64)
 }
 
 // Bit n of the mask allows the service of raw number n; 0 filters none.
-pub fn set_mms_service_mask_on(m: &mut [u64; 1148], mask: u16)
+pub fn set_mms_service_mask_on(m: &mut [u64; WORDS], mask: u16)
     ensures { λ _. ⌜ monitorOf (now (m .exit)) ≡ setMmsServiceMask (monitorOf (now (m .entry))) mask ⌝ }
 {
     set_setting(m, MMS_SERVICE_MASK, mask as u64);
 }
 
 // Whether all writes are refused.
-pub fn set_mms_read_only_on(m: &mut [u64; 1148], read_only: bool)
+pub fn set_mms_read_only_on(m: &mut [u64; WORDS], read_only: bool)
     ensures { λ _. ⌜ monitorOf (now (m .exit)) ≡ setMmsReadOnly (monitorOf (now (m .entry))) «read_only» ⌝ }
 {
     set_setting(m, MMS_READ_ONLY, flag_word(read_only));
 }
 
 // Whether GOOSE test frames are refused.
-pub fn set_block_test_frames_on(m: &mut [u64; 1148], block: bool)
+pub fn set_block_test_frames_on(m: &mut [u64; WORDS], block: bool)
     ensures { λ _. ⌜ monitorOf (now (m .exit)) ≡ setBlockTestFrames (monitorOf (now (m .entry))) block ⌝ }
 {
     set_setting(m, BLOCK_TEST_FRAMES, flag_word(block));
 }
 
 // The largest gap of smpCnt that is accepted; 0 accepts any.
-pub fn set_sv_max_smp_cnt_gap_on(m: &mut [u64; 1148], gap: u16)
+pub fn set_sv_max_smp_cnt_gap_on(m: &mut [u64; WORDS], gap: u16)
     ensures { λ _. ⌜ monitorOf (now (m .exit)) ≡ setSvMaxSmpCntGap (monitorOf (now (m .entry))) gap ⌝ }
 {
     set_setting(m, SV_MAX_SMP_CNT_GAP, gap as u64);
 }
 
 // The schedule of retransmissions, and whether it is enforced.
-pub fn set_retx_schedule_on(m: &mut [u64; 1148], schedule: RetxSchedule, enforce: bool)
+pub fn set_retx_schedule_on(m: &mut [u64; WORDS], schedule: RetxSchedule, enforce: bool)
     ensures { λ _. ⌜ monitorOf (now (m .exit)) ≡ setRetxSchedule (monitorOf (now (m .entry))) schedule enforce ⌝ }
 {
     set_setting(m, RETX_INITIAL_US, schedule.initial_us as u64);
@@ -92,14 +94,14 @@ pub fn set_retx_schedule_on(m: &mut [u64; 1148], schedule: RetxSchedule, enforce
 }
 
 // How many seconds a clock may go ahead from one frame to the next; 0 for any. Going back always alerts.
-pub fn set_time_max_forward_jump_s_on(m: &mut [u64; 1148], seconds: u32)
+pub fn set_time_max_forward_jump_s_on(m: &mut [u64; WORDS], seconds: u32)
     ensures { λ _. ⌜ monitorOf (now (m .exit)) ≡ setTimeMaxForwardJump (monitorOf (now (m .entry))) seconds ⌝ }
 {
     set_setting(m, TIME_MAX_FORWARD_JUMP_S, seconds as u64);
 }
 
 // What a setting's word says.
-pub fn setting_on(m: &[u64; 1148], place: usize) -> u64
+pub fn setting_on(m: &[u64; WORDS], place: usize) -> u64
     requires { ⌜ place < 10 ⌝ }
     ensures { λ r. ⌜ r ≡ setting (monitorOf (now (m .entry))) place ⌝ }
 {
@@ -107,7 +109,7 @@ pub fn setting_on(m: &[u64; 1148], place: usize) -> u64
 }
 
 // Whether a flag is set.
-pub fn flag_on(m: &[u64; 1148], place: usize) -> bool
+pub fn flag_on(m: &[u64; WORDS], place: usize) -> bool
     requires { ⌜ place < 10 ⌝ }
     ensures { λ r. ⌜ r ≡ settingFlag (monitorOf (now (m .entry))) place ⌝ }
 {
@@ -135,7 +137,7 @@ fn word8(word: u64) -> u8
 }
 
 // The schedule of retransmissions.
-pub fn retx_schedule_on(m: &[u64; 1148]) -> RetxSchedule
+pub fn retx_schedule_on(m: &[u64; WORDS]) -> RetxSchedule
     ensures { λ r. ⌜ r ≡ retxSchedule (monitorOf (now (m .entry))) ⌝ }
 {
     RetxSchedule {
@@ -146,7 +148,7 @@ pub fn retx_schedule_on(m: &[u64; 1148]) -> RetxSchedule
 }
 
 // How many seconds a clock may go ahead.
-pub fn time_max_forward_jump_s_on(m: &[u64; 1148]) -> u32
+pub fn time_max_forward_jump_s_on(m: &[u64; WORDS]) -> u32
     ensures { λ r. ⌜ r ≡ timeMaxForwardJump (monitorOf (now (m .entry))) ⌝ }
 {
     word32(setting_on(m, TIME_MAX_FORWARD_JUMP_S))

@@ -5,6 +5,9 @@ ghost use lib.ListN.{length, getD, set};
 ghost use Rattle.records.specs.Counter.{saturated};
 ghost use Rattle.monitor.specs.Monitor.{monitorOf};
 ghost use Rattle.monitor.specs.Totals.{total, alertCounters, frameCounted, withAlerts};
+use crate::parts::MMS_RULES;
+use crate::parts::TOTALS;
+use crate::parts::WORDS;
 use records::counter::saturating_increment;
 use records::result::AlertCounters;
 
@@ -19,11 +22,8 @@ pub const NEXT_ALERT_ID: usize = 3;
 
 pub const TOTAL_ALERTS: usize = 4;
 
-// Where the totals stand in the monitor.
-const TOTALS: usize = 10;
-
 // One of the totals.
-pub fn total_on(m: &[u64; 1148], place: usize) -> u64
+pub fn total_on(m: &[u64; WORDS], place: usize) -> u64
     requires { ⌜ place < 5 ⌝ }
     ensures { λ r. ⌜ r ≡ total (monitorOf (now (m .entry))) place ⌝ }
 {
@@ -31,7 +31,7 @@ pub fn total_on(m: &[u64; 1148], place: usize) -> u64
 }
 
 // The alerts' counters.
-pub fn alert_counters_on(m: &[u64; 1148]) -> AlertCounters
+pub fn alert_counters_on(m: &[u64; WORDS]) -> AlertCounters
     ensures { λ r. ⌜ r ≡ alertCounters (monitorOf (now (m .entry))) ⌝ }
 {
     AlertCounters {
@@ -52,11 +52,11 @@ fn count_frame_lent(m: &mut [u64], place: usize)
     requires { ⌜ (length (now m) ≡ 1148) × (place < 5) ⌝ }
     ensures { λ _. ⌜ monitorOf (now (m .exit)) ≡ frameCounted (monitorOf (now (m .entry))) place ⌝ }
 {
-    count_in(&mut m[10..15], place);
+    count_in(&mut m[TOTALS..MMS_RULES], place);
 }
 
 // Counts a frame.
-pub fn count_frame_on(m: &mut [u64; 1148], place: usize)
+pub fn count_frame_on(m: &mut [u64; WORDS], place: usize)
     requires { ⌜ place < 5 ⌝ }
     ensures { λ _. ⌜ monitorOf (now (m .exit)) ≡ frameCounted (monitorOf (now (m .entry))) place ⌝ }
 {
@@ -76,10 +76,10 @@ fn set_alert_counters_lent(m: &mut [u64], counters: AlertCounters)
     requires { ⌜ length (now m) ≡ 1148 ⌝ }
     ensures { λ _. ⌜ monitorOf (now (m .exit)) ≡ withAlerts (monitorOf (now (m .entry))) counters ⌝ }
 {
-    store_counters(&mut m[10..15], counters);
+    store_counters(&mut m[TOTALS..MMS_RULES], counters);
 }
 
-pub fn set_alert_counters_on(m: &mut [u64; 1148], counters: AlertCounters)
+pub fn set_alert_counters_on(m: &mut [u64; WORDS], counters: AlertCounters)
     ensures { λ _. ⌜ monitorOf (now (m .exit)) ≡ withAlerts (monitorOf (now (m .entry))) counters ⌝ }
 {
     set_alert_counters_lent(m, counters);

@@ -8,6 +8,7 @@ use inspection::inspect_goose::inspect_goose_on;
 use inspection::inspect_mms::inspect_mms_on;
 use inspection::inspect_sv::inspect_raw_sv_on;
 use inspection::inspect_sv::inspect_sv_on;
+use monitor::parts::WORDS;
 use monitor::parts::add_goose_publisher_on;
 use monitor::parts::add_mms_rule_on;
 use monitor::parts::add_sv_publisher_on;
@@ -47,7 +48,7 @@ use script::queries::put_query;
 use script::text::put_octets;
 use wire::number::octet_at;
 
-fn readings(m: &[u64; 1148]) -> MonitorReadings {
+fn readings(m: &[u64; WORDS]) -> MonitorReadings {
     readings_of(
         total_on(m, MMS_TOTAL_INSPECTED),
         total_on(m, GOOSE_TOTAL_INSPECTED),
@@ -58,7 +59,7 @@ fn readings(m: &[u64; 1148]) -> MonitorReadings {
 }
 
 // One of the calls 0 to 9, which answer nothing; call 3 asks for the totals, which every line has.
-fn settle(m: &mut [u64; 1148], number: u8, call: &[u8]) {
+fn settle(m: &mut [u64; WORDS], number: u8, call: &[u8]) {
     match number {
         0 => new_on(m, false),
         1 => new_on(m, true),
@@ -74,7 +75,7 @@ fn settle(m: &mut [u64; 1148], number: u8, call: &[u8]) {
 }
 
 // One of the calls 10 to 12. A name is what the call has behind its numbers.
-fn add(m: &mut [u64; 1148], number: u8, call: &[u8]) -> Added {
+fn add(m: &mut [u64; WORDS], number: u8, call: &[u8]) -> Added {
     match number {
         10 => add_mms_rule_on(m, u16_at(call, 1), flag_at(call, 3), u16_at(call, 4)),
         11 => add_goose_publisher_on(m, address_of(mac_at(call, 1)), rest_at(call, 7)),
@@ -99,7 +100,7 @@ fn put_added(line: &mut [u8], at: usize, answer: Added) -> usize
 }
 
 // One of the calls 13 to 15.
-fn inspect(m: &mut [u64; 1148], number: u8, call: &[u8]) -> InspectResult {
+fn inspect(m: &mut [u64; WORDS], number: u8, call: &[u8]) -> InspectResult {
     match number {
         13 => inspect_mms_on(m, mms_frame(call)),
         14 => inspect_goose_on(m, goose_frame(call)),
@@ -108,7 +109,7 @@ fn inspect(m: &mut [u64; 1148], number: u8, call: &[u8]) -> InspectResult {
 }
 
 // Call 16: time, and the octets of the frame.
-fn inspect_raw(m: &mut [u64; 1148], call: &[u8], line: &mut [u8], at: usize) -> usize
+fn inspect_raw(m: &mut [u64; WORDS], call: &[u8], line: &mut [u8], at: usize) -> usize
     requires { ⌜ at ≤ length (now line) ⌝ }
     ensures { λ r. ⌜ Counts r (now (line .exit)) ⌝ }
 {
@@ -120,7 +121,7 @@ fn inspect_raw(m: &mut [u64; 1148], call: &[u8], line: &mut [u8], at: usize) -> 
 }
 
 // Makes a call, and puts what it answers.
-fn put_answer(m: &mut [u64; 1148], call: &[u8], line: &mut [u8], at: usize) -> usize
+fn put_answer(m: &mut [u64; WORDS], call: &[u8], line: &mut [u8], at: usize) -> usize
     requires { ⌜ at ≤ length (now line) ⌝ }
     ensures { λ r. ⌜ Counts r (now (line .exit)) ⌝ }
 {
@@ -138,7 +139,7 @@ fn put_answer(m: &mut [u64; 1148], call: &[u8], line: &mut [u8], at: usize) -> u
 }
 
 // Makes a call, and puts its line, which ends with the totals.
-pub fn make_call(m: &mut [u64; 1148], call: &[u8], line: &mut [u8], at: usize) -> usize
+pub fn make_call(m: &mut [u64; WORDS], call: &[u8], line: &mut [u8], at: usize) -> usize
     requires { ⌜ at ≤ length (now line) ⌝ }
     ensures { λ r. ⌜ Counts r (now (line .exit)) ⌝ }
 {

@@ -4,6 +4,7 @@ mod calls;
 
 use calls::make_call;
 use libc::STDOUT_FILENO;
+use monitor::parts::WORDS;
 use monitor::reset::new_on;
 use records::counter::saturating_increment;
 use script::answers::put_malformed;
@@ -114,7 +115,7 @@ fn next_call(
 // Makes the call that was read, if there is one, on the monitor's words.
 fn answer_call(
     run: Run,
-    m: &mut [u64; 1148],
+    m: &mut [u64; WORDS],
     call: &[u8; 262144],
     output: &mut [u8; 65536],
 ) -> Run {
@@ -151,7 +152,7 @@ fn main() {
     let mut buffer = [0u8; 262144];
     let mut call = [0u8; 262144];
     let mut output = [0u8; 65536];
-    let mut words = [0u64; 1148];
+    let mut words = [0u64; WORDS];
     new_on(&mut words, false);
     let mut run = new_run();
     let mut turns = u64::MAX;
