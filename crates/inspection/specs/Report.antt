@@ -7,8 +7,10 @@ use lib.ListN.{getD, set}
 use Rattle.records.specs.declared.alert.AlertSeverity.{AlertSeverity}
 use Rattle.records.specs.declared.alert.AlertSeverity.the-variants.{Info, Low, Medium, High}
 use Rattle.records.specs.declared.alert.AlertCode.{AlertCode}
-use Rattle.records.specs.declared.alert.AlertCode.the-variants.{Unspecified, UnknownFunctionCode, WriteProtection, RateExceeded, NoMatchingRule, ResourceExhausted, PolicyViolation}
-use Rattle.records.specs.declared.alert.AlertCode.the-variants.{CbHijack, TimeSyncSpoofing, ReplayDetected, RetransmissionAnomaly, IedMismatch, SvReplay, SvRateAnomaly}
+use Rattle.records.specs.declared.alert.AlertCode.the-variants.{Unspecified, UnknownFunctionCode, WriteProtection, RateExceeded, NoMatchingRule}
+use Rattle.records.specs.declared.alert.AlertCode.the-variants.{ResourceExhausted, PolicyViolation}
+use Rattle.records.specs.declared.alert.AlertCode.the-variants.{CbHijack, TimeSyncSpoofing, ReplayDetected, RetransmissionAnomaly, IedMismatch, SvReplay}
+use Rattle.records.specs.declared.alert.AlertCode.the-variants.{SvRateAnomaly}
 use Rattle.records.specs.declared.result.AlertCounters.{AlertCounters}
 use Rattle.records.specs.declared.result.InspectResult.{InspectResult}
 use Rattle.records.specs.declared.result.Pushed.{Pushed}
@@ -19,8 +21,10 @@ use Rattle.monitor.specs.Monitor.{Monitor}
 use Rattle.monitor.specs.Parts.{After}
 use Rattle.monitor.specs.Totals.{alertCounters, withAlerts}
 use Rattle.inspection.specs.declared.report.CheckAlert.{CheckAlert}
-use Rattle.inspection.specs.declared.report.CheckAlert.the-variants.{Nothing, ServiceMasked, WriteRefused, OverRate, NoRule, ReservationsFull, TestBlocked, UnknownPublisher, BoundElsewhere, ClockAlert}
-use Rattle.inspection.specs.declared.report.CheckAlert.the-variants.{GooseReplay, Retransmission, WrongIed, UnknownSvid, CountReplay, CountGap, SuspiciousCount, RateMismatch}
+use Rattle.inspection.specs.declared.report.CheckAlert.the-variants.{Nothing, ServiceMasked, WriteRefused, OverRate, NoRule, ReservationsFull}
+use Rattle.inspection.specs.declared.report.CheckAlert.the-variants.{TestBlocked, UnknownPublisher, BoundElsewhere, ClockAlert}
+use Rattle.inspection.specs.declared.report.CheckAlert.the-variants.{GooseReplay, Retransmission, WrongIed, UnknownSvid, CountReplay, CountGap}
+use Rattle.inspection.specs.declared.report.CheckAlert.the-variants.{SuspiciousCount, RateMismatch}
 use Rattle.inspection.specs.declared.report.CheckAlerts.{CheckAlerts}
 use Rattle.inspection.specs.declared.report.Noted.{Noted}
 use Rattle.inspection.specs.declared.report.RuleCheck.{RuleCheck}

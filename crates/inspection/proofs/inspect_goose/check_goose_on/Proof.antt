@@ -15,4 +15,12 @@ returns c =
     (c .goose-checks-on .ensures)
 
 pub check-goose-on-spec : {M : Type 1} → statement M
-check-goose-on-spec = tie.close (tie.spec (λ c κs. search needs) (λ c. search needs) (λ c κs. search needs) (λ c κs. search needs) (λ c κs. search needs) returns)
+check-goose-on-spec =
+    tie.close
+    (tie.spec
+    (λ c κs. search needs)
+    (λ c. search needs)
+    (λ c κs. search needs)
+    (λ c κs. search needs)
+    (λ c κs. search needs)
+    returns)

@@ -16,4 +16,12 @@ returns c =
     (seq .check-goose-seq-on .ensures) (c .goose-alerts .ensures)
 
 pub goose-time-field-spec : {M : Type 1} → statement M
-goose-time-field-spec = tie.close (tie.spec (λ c κs. search needs) (λ c κs. search needs) (λ c κs. search needs) (λ c κs. search needs) (λ c κs. search needs) returns)
+goose-time-field-spec =
+    tie.close
+    (tie.spec
+    (λ c κs. search needs)
+    (λ c κs. search needs)
+    (λ c κs. search needs)
+    (λ c κs. search needs)
+    (λ c κs. search needs)
+    returns)

@@ -43,4 +43,14 @@ returns-3 c =
     (c .enum-told2 .given .1)
 
 pub goose-unknown-spec : {M : Type 1} → statement M
-goose-unknown-spec = tie.close (tie.spec (λ c κs. search needs) returns (λ c κs. search needs) (λ c κs. search needs) (λ c. search needs) (λ c. search needs) returns-2 returns-3)
+goose-unknown-spec =
+    tie.close
+    (tie.spec
+    (λ c κs. search needs)
+    returns
+    (λ c κs. search needs)
+    (λ c κs. search needs)
+    (λ c. search needs)
+    (λ c. search needs)
+    returns-2
+    returns-3)

@@ -15,4 +15,11 @@ returns c =
     c .fnv1a-32 .ensures ∙ ap (λ (n : ℕ). fnv1a (take n (v .before .before .args .name .now))) (v .valid-len .ensures)
 
 pub name-hash-spec : {M : Type 1} → statement M
-name-hash-spec = tie.close (tie.spec (λ c κs. search needs) (λ c. search needs) (λ c. sym (length-take-le _ _ (omega (arith, c .before .valid-len .ensures)))) (λ c κs. search needs) returns)
+name-hash-spec =
+    tie.close
+    (tie.spec
+    (λ c κs. search needs)
+    (λ c. search needs)
+    (λ c. sym (length-take-le _ _ (omega (arith, c .before .valid-len .ensures))))
+    (λ c κs. search needs)
+    returns)

@@ -3,7 +3,6 @@ use borrow.Author.Needs.{needs}
 use Prim.Native.Nat.{ℕ}
 use mathlib.Core.Path.{ap, _∙_}
 use lib.Dec.{eqb}
-use Rattle.records.specs.declared.alert.AlertCode.{AlertCode}
 use Rattle.records.specs.Alert.{codeNumber}
 use Rattle.inspection.proofs.report.is_nothing.Statement.{statement}
 use Rattle.inspection.proofs.report.is_nothing.Tie as tie

@@ -22,4 +22,12 @@ returns c =
     (gooseReadBy (nameOf (name .name-at .ensures i) (octetAt o 70)) (numbers .goose-numbers .ensures i)))
 
 pub check-goose-lent-spec : {M : Type 1} → statement M
-check-goose-lent-spec = tie.close (tie.spec (λ c κs. search needs) (λ c κs. search needs) (λ c κs. search needs) (λ c. search needs) (λ c κs. search needs) returns)
+check-goose-lent-spec =
+    tie.close
+    (tie.spec
+    (λ c κs. search needs)
+    (λ c κs. search needs)
+    (λ c κs. search needs)
+    (λ c. search needs)
+    (λ c κs. search needs)
+    returns)

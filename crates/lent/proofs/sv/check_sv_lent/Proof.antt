@@ -26,4 +26,15 @@ returns c =
     (svReadBy (x i) (nameOf (dataset .name-at2 .ensures i) (octetAt o 76)) (numbers .sv-numbers .ensures i)))
 
 pub check-sv-lent-spec : {M : Type 1} → statement M
-check-sv-lent-spec = tie.close (tie.spec (λ c κs. search needs) (λ c κs. search needs) (λ c κs. search needs) (λ c. search needs) (λ c κs. search needs) (λ c κs. search needs) (λ c. search needs) (λ c κs. search needs) returns)
+check-sv-lent-spec =
+    tie.close
+    (tie.spec
+    (λ c κs. search needs)
+    (λ c κs. search needs)
+    (λ c κs. search needs)
+    (λ c. search needs)
+    (λ c κs. search needs)
+    (λ c κs. search needs)
+    (λ c. search needs)
+    (λ c κs. search needs)
+    returns)
