@@ -8,7 +8,7 @@ ghost use Rattle.lent.specs.Sv.{svFrameOf};
 ghost use Rattle.batch.specs.Batch.{batchCount, verdictPut, svBatch};
 use inspection::report::CLEAN_VERDICT;
 use inspection::report::none_found;
-use inspection::report::verdict_on;
+use inspection::report::noted_on;
 use lent::sv::check_sv_lent;
 use monitor::parts::WORDS;
 use records::verdict::put_verdict;
@@ -32,7 +32,7 @@ fn inspect_sv_into(m: &mut [u64; WORDS], o: &[u8], verdicts: &mut [u8], at: usiz
         put_verdict(verdicts, at, CLEAN_VERDICT);
         return;
     }
-    let verdict = verdict_on(m, alerts);
+    let verdict = noted_on(m, alerts);
     put_verdict(verdicts, at, verdict);
 }
 

@@ -321,7 +321,7 @@ fn verdict_of(counters: AlertCounters, alerts: CheckAlerts) -> Noted
 }
 
 // The verdict that reports what the checks found, in a monitor. No result is made.
-fn noted_on(m: &mut [u64; WORDS], alerts: CheckAlerts) -> [u8; 8]
+pub fn noted_on(m: &mut [u64; WORDS], alerts: CheckAlerts) -> [u8; 8]
     ensures { λ r. ⌜ ((source sourceNumber time : ℕ) → record { monitor = monitorOf (now (m .exit)); answer = r }
         ≡ withVerdict (reported source sourceNumber time (ended (monitorOf (now (m .entry))) (alertsOf alerts)))) ⌝ }
 {

@@ -2,6 +2,11 @@
 ghost use Prim.Native.Nat.{_≤_};
 ghost use lib.ListN.{length};
 ghost use Rattle.io.specs.Counts.{Counts};
+use answers::queries::put_parsing;
+use answers::queries::put_query;
+use answers::refusal::put_error;
+use answers::result::put_result;
+use answers::totals::put_line_end;
 use checks::rules::Added;
 use inspection::address::address_of;
 use inspection::inspect_goose::inspect_goose_on;
@@ -14,25 +19,13 @@ use monitor::parts::add_mms_rule_on;
 use monitor::parts::add_sv_publisher_on;
 use monitor::reset::new_on;
 use monitor::reset::reset_on;
-use monitor::settings::STRICT_MODE;
-use monitor::settings::flag_on;
 use monitor::settings::set_block_test_frames_on;
 use monitor::settings::set_mms_read_only_on;
 use monitor::settings::set_mms_service_mask_on;
 use monitor::settings::set_retx_schedule_on;
 use monitor::settings::set_sv_max_smp_cnt_gap_on;
 use monitor::settings::set_time_max_forward_jump_s_on;
-use monitor::totals::GOOSE_TOTAL_INSPECTED;
-use monitor::totals::MMS_TOTAL_INSPECTED;
-use monitor::totals::SV_TOTAL_INSPECTED;
-use monitor::totals::TOTAL_ALERTS;
-use monitor::totals::total_on;
 use records::result::InspectResult;
-use script::answers::MonitorReadings;
-use script::answers::put_error;
-use script::answers::put_readings;
-use script::answers::put_result;
-use script::answers::readings_of;
 use script::arguments::flag_at;
 use script::arguments::mac_at;
 use script::arguments::rest_at;
@@ -43,20 +36,8 @@ use script::frames::goose_frame;
 use script::frames::mms_frame;
 use script::frames::schedule;
 use script::frames::sv_frame;
-use script::queries::put_parsing;
-use script::queries::put_query;
 use script::text::put_octets;
 use wire::number::octet_at;
-
-fn readings(m: &[u64; WORDS]) -> MonitorReadings {
-    readings_of(
-        total_on(m, MMS_TOTAL_INSPECTED),
-        total_on(m, GOOSE_TOTAL_INSPECTED),
-        total_on(m, SV_TOTAL_INSPECTED),
-        total_on(m, TOTAL_ALERTS),
-        flag_on(m, STRICT_MODE),
-    )
-}
 
 // One of the calls 0 to 9, which answer nothing; call 3 asks for the totals, which every line has.
 fn settle(m: &mut [u64; WORDS], number: u8, call: &[u8]) {
@@ -109,7 +90,7 @@ fn inspect(m: &mut [u64; WORDS], number: u8, call: &[u8]) -> InspectResult {
 }
 
 // Call 16: time, and the octets of the frame.
-fn inspect_raw(m: &mut [u64; WORDS], call: &[u8], line: &mut [u8], at: usize) -> usize
+fn inspect_raw(m: &mut [u64; WORDS], call: &[u8], names: &[u8], line: &mut [u8], at: usize) -> usize
     requires { ⌜ at ≤ length (now line) ⌝ }
     ensures { λ r. ⌜ Counts r (now (line .exit)) ⌝ }
 {
@@ -117,19 +98,19 @@ fn inspect_raw(m: &mut [u64; WORDS], call: &[u8], line: &mut [u8], at: usize) ->
     let start = put_parsing(call, line, at);
     let end = put_octets(line, start, b" result ");
     let result = raw.result;
-    put_result(line, end, result)
+    put_result(line, end, names, result)
 }
 
 // Makes a call, and puts what it answers.
-fn put_answer(m: &mut [u64; WORDS], call: &[u8], line: &mut [u8], at: usize) -> usize
+fn put_answer(m: &mut [u64; WORDS], call: &[u8], names: &[u8], line: &mut [u8], at: usize) -> usize
     requires { ⌜ at ≤ length (now line) ⌝ }
     ensures { λ r. ⌜ Counts r (now (line .exit)) ⌝ }
 {
     let number = octet_at(call, 0);
     match number {
         10 | 11 | 12 => put_added(line, at, add(m, number, call)),
-        13 | 14 | 15 => put_result(line, at, inspect(m, number, call)),
-        16 => inspect_raw(m, call, line, at),
+        13 | 14 | 15 => put_result(line, at, names, inspect(m, number, call)),
+        16 => inspect_raw(m, call, names, line, at),
         17 | 18 | 19 | 20 => put_query(call, line, at),
         _ => {
             settle(m, number, call);
@@ -138,11 +119,17 @@ fn put_answer(m: &mut [u64; WORDS], call: &[u8], line: &mut [u8], at: usize) -> 
     }
 }
 
-// Makes a call, and puts its line, which ends with the totals.
-pub fn make_call(m: &mut [u64; WORDS], call: &[u8], line: &mut [u8], at: usize) -> usize
+// Makes a call, and puts its line, which ends with the totals. The names are those of `answers`.
+pub fn make_call(
+    m: &mut [u64; WORDS],
+    call: &[u8],
+    names: &[u8],
+    line: &mut [u8],
+    at: usize,
+) -> usize
     requires { ⌜ at ≤ length (now line) ⌝ }
     ensures { λ r. ⌜ Counts r (now (line .exit)) ⌝ }
 {
-    let end = put_answer(m, call, line, at);
-    put_readings(line, end, readings(m))
+    let end = put_answer(m, call, names, line, at);
+    put_line_end(line, end, m)
 }

@@ -2,29 +2,30 @@
 // field of what it answered. docs/SCRIPT.md says how calls and answers are written.
 mod calls;
 
+use answers::names::NAMES;
+use answers::refusal::put_malformed;
 use calls::make_call;
 use libc::STDOUT_FILENO;
 use monitor::parts::WORDS;
 use monitor::reset::new_on;
 use records::counter::saturating_increment;
-use script::answers::put_malformed;
 use script::arguments::front;
 use script::input::Input;
 use script::input::behind_line;
 use script::input::find_line;
-use script::input::last_line;
 use script::input::read_found;
 use script::input::refilled;
 use script::line::Line;
 use wire::number::least;
 
 // How many lines were read; where the next one stands in the input buffer; where the answers end in the output buffer; where the record
-// ends of the call that is to be made, 0 if there is none; and whether to go on.
+// ends of the call that is to be made, 0 if there is none; whether the input has ended; and whether to go on.
 struct Run {
     lines: u64,
     input: Input,
     end: usize,
     call_end: usize,
+    ended: bool,
     more: bool,
 }
 
@@ -57,37 +58,29 @@ fn note_line(run: Run, line: Line, output: &mut [u8]) -> Run {
     }
 }
 
-// Reads the line that no line feed ends, the last.
-fn read_last(run: Run, buffer: &[u8], call: &mut [u8], output: &mut [u8]) -> Run {
-    let input = run.input;
-    let line = last_line(input, buffer, call);
-    let mut out = note_line(run, line, output);
-    out.more = false;
-    out
-}
-
-// Writes the answers, and reads more. Where nothing comes, the input ends or the line is too long for the buffer.
-fn read_on(run: Run, buffer: &mut [u8], call: &mut [u8], output: &mut [u8]) -> Run {
+// Writes the answers, and reads more. Where nothing comes, the input has ended, or the line is too long for the buffer.
+fn read_on(run: Run, buffer: &mut [u8], output: &[u8]) -> Run {
     let mut out = run;
     out.more = write_answers(output, run.end);
     out.end = 0;
     let places = run.input;
     let input = refilled(places, buffer);
     out.input = input;
-    if input.searched < input.filled {
-        return out;
-    }
-    read_last(out, buffer, call, output)
+    out.ended = input.searched >= input.filled;
+    out
 }
 
-// Reads the next line if the buffer has all of it. If not, reads on.
+// Reads the next line if the buffer has all of it. If not, reads on. The line that the end of the input ends is the last.
 fn read_next(run: Run, buffer: &mut [u8], call: &mut [u8], output: &mut [u8]) -> Run {
     let mut out = run;
     let places = run.input;
     let input = find_line(places, buffer);
     out.input = input;
     if input.searched >= input.filled {
-        return read_on(out, buffer, call, output);
+        if !run.ended {
+            return read_on(out, buffer, output);
+        }
+        out.more = false;
     }
     let line = read_found(input, buffer, call);
     let next = behind_line(input);
@@ -117,12 +110,13 @@ fn answer_call(
     run: Run,
     m: &mut [u64; WORDS],
     call: &[u8; 262144],
+    names: &[u8; 1152],
     output: &mut [u8; 65536],
 ) -> Run {
     let mut out = run;
     if run.call_end > 0 {
         let record = front(call, run.call_end);
-        out.end = make_call(m, record, output, least(run.end, 65536));
+        out.end = make_call(m, record, names, output, least(run.end, 65536));
     }
     out
 }
@@ -142,6 +136,7 @@ fn new_run() -> Run {
         },
         end: 0,
         call_end: 0,
+        ended: false,
         more: true,
     }
 }
@@ -152,13 +147,14 @@ fn main() {
     let mut buffer = [0u8; 262144];
     let mut call = [0u8; 262144];
     let mut output = [0u8; 65536];
+    let names = NAMES;
     let mut words = [0u64; WORDS];
     new_on(&mut words, false);
     let mut run = new_run();
     let mut turns = u64::MAX;
     while turns > 0 && run.more {
         run = next_call(run, &mut buffer, &mut call, &mut output);
-        run = answer_call(run, &mut words, &call, &mut output);
+        run = answer_call(run, &mut words, &call, &names, &mut output);
         turns -= 1;
     }
     write_last(&output, run.end);

@@ -87,11 +87,14 @@ pub fn find_line(input: Input, buffer: &[u8]) -> Input {
     out
 }
 
-// Reads the line that ends where the search did.
+// Reads the line that ends where the search did. One that no line feed ends is the last, and too long if it fills the buffer.
 pub fn read_found(input: Input, buffer: &[u8], call: &mut [u8]) -> Line {
     let places = within(input, buffer.len());
     let start = places.start;
     let end = places.searched;
+    if end >= buffer.len() {
+        return Line::TooLong;
+    }
     read_line(&buffer[start..end], call)
 }
 
@@ -117,12 +120,4 @@ pub fn refilled(input: Input, buffer: &mut [u8]) -> Input {
         searched: rest,
         filled: rest + got,
     }
-}
-
-// Reads the line that no line feed ends.
-pub fn last_line(input: Input, buffer: &[u8], call: &mut [u8]) -> Line {
-    if input.filled >= buffer.len() {
-        return Line::TooLong;
-    }
-    read_found(input, buffer, call)
 }

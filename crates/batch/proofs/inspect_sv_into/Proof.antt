@@ -38,7 +38,7 @@ returns-2 c =
     let a = k .before .before .before .before .args in
     let f = svFrameOf (a .o .now) in
     verdict-put (a .verdicts .now) (a .at) (inspectSv (monitorOf (a .m .now)) f)
-    (v .verdict-on .ensures sourceSv (f .«smp_cnt») (f .«timestamp_us»)
+    (v .noted-on .ensures sourceSv (f .«smp_cnt») (f .«timestamp_us»)
     ∙ ap (λ (x : Checked). withVerdict (reported sourceSv (f .«smp_cnt») (f .«timestamp_us») x)) (k .check-sv-lent .ensures))
     (p .put-verdict2 .ensures)
 

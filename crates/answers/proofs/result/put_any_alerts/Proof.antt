@@ -1,10 +1,10 @@
--- `script::answers::put_any_alerts` stays within the line. Where there are no alerts, its place is the one that it was given. Assumes nothing.
+-- `answers::result::put_any_alerts` stays within the line. Where there are no alerts, its place is the one that it was given. Assumes nothing.
 use native.Mathlib.Omega.{arith}
 use lib.ListN.{length}
 use Rattle.io.proofs.Counting.{counts}
 use borrow.Author.Needs.{needs}
-use Rattle.script.proofs.answers.put_any_alerts.Statement.{statement}
-use Rattle.script.proofs.answers.put_any_alerts.Tie as tie
+use Rattle.answers.proofs.result.put_any_alerts.Statement.{statement}
+use Rattle.answers.proofs.result.put_any_alerts.Tie as tie
 
 returns : tie.Need-returns
 returns c = counts _ _ (omega arith)

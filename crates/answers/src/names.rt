@@ -1,23 +1,13 @@
-// The names of alert codes and severities, with spaces behind them. A line that is put together has them without.
+// The names of alert codes and of severities, in one table, which a program lays out once and lends.
 ghost use Prim.Native.Nat.{_≤_};
 ghost use lib.ListN.{length};
 ghost use Rattle.io.specs.Counts.{Counts};
-use crate::text::put_octets;
-use crate::words::short_word_end;
-use records::alert::AlertSeverity;
+use script::text::put_octets;
+use script::words::short_word_end;
+use wire::number::least;
 
-pub fn severity_name(severity: AlertSeverity) -> [u8; 8] {
-    match severity {
-        AlertSeverity::Info => *b"Info    ",
-        AlertSeverity::Low => *b"Low     ",
-        AlertSeverity::Medium => *b"Medium  ",
-        AlertSeverity::High => *b"High    ",
-        AlertSeverity::Critical => *b"Critical",
-    }
-}
-
-// The names of the alert codes by their numbers, each in 24 octets. One text is proved faster than a `match` with as many arms.
-const CODE_NAMES: [u8; 1032] = *b"\
+// The names of the 43 alert codes by their numbers, and behind them those of the five severities, each in 24 octets.
+pub const NAMES: [u8; 1152] = *b"\
     Unspecified             \
     CrcFailure              \
     WriteProtection         \
@@ -60,30 +50,26 @@ const CODE_NAMES: [u8; 1032] = *b"\
     IinFlagSpoofing         \
     ForeignDevice           \
     NpduLoop                \
-    BroadcastFlood          ";
+    BroadcastFlood          \
+    Info                    \
+    Low                     \
+    Medium                  \
+    High                    \
+    Critical                ";
 
-// The name of an alert code's number; there are 43.
-pub fn code_name(number: u8) -> [u8; 24] {
-    let mut name = [b' '; 24];
-    if number > 42 {
-        return name;
-    }
-    let names = CODE_NAMES;
-    let start = 24 * (number as usize);
-    let mut i: usize = 0;
-    while i < 24 {
-        name[i] = names[start + i];
-        i += 1;
-    }
-    name
-}
+// Where the names of the severities begin.
+pub const SEVERITIES: usize = 43;
 
-// Puts a space and a name into a line, from a place on, and answers the place behind it.
-pub fn put_name(line: &mut [u8], at: usize, name: &[u8]) -> usize
+// Puts a space and the name at a place of the table.
+pub fn put_name(line: &mut [u8], at: usize, names: &[u8], place: usize) -> usize
     requires { ⌜ at ≤ length (now line) ⌝ }
     ensures { λ r. ⌜ Counts r (now (line .exit)) ⌝ }
 {
-    let n = short_word_end(name, 0);
     let start = put_octets(line, at, b" ");
-    put_octets(line, start, &name[0..n])
+    if place >= 48 {
+        return start;
+    }
+    let from = least(24 * place, names.len());
+    let to = short_word_end(names, from);
+    put_octets(line, start, &names[from..to])
 }

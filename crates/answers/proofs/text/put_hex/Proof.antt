@@ -1,4 +1,4 @@
--- `script::text::put_hex` stays within the line. The loop's invariant: the place to go on at is within the line, which has kept
+-- `answers::text::put_hex` stays within the line. The loop's invariant: the place to go on at is within the line, which has kept
 -- its length. The measure is the number of octets that are left. Assumes nothing.
 use Prim.Native.Nat.{_≤_, _-_}
 use mathlib.Core.Path.{_≡_}
@@ -6,8 +6,8 @@ use native.Mathlib.Omega.{arith}
 use lib.ListN.{length}
 use Rattle.io.proofs.Counting.{counts}
 use borrow.Author.Needs.{needs}
-use Rattle.script.proofs.text.put_hex.Statement.{statement}
-use Rattle.script.proofs.text.put_hex.Tie as tie
+use Rattle.answers.proofs.text.put_hex.Statement.{statement}
+use Rattle.answers.proofs.text.put_hex.Tie as tie
 
 abbrev Inv-loop : tie.InvT-loop
 Inv-loop line₀ at octets end₀ i₀ line end i = (end ≤ length line) × (i ≤ length octets) × (length line ≡ length line₀)

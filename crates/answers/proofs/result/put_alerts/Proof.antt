@@ -1,4 +1,4 @@
--- `script::answers::put_alerts` stays within the line. The loop's invariant: the place to go on at is within the line, which has kept
+-- `answers::result::put_alerts` stays within the line. The loop's invariant: the place to go on at is within the line, which has kept
 -- its length. The measure is the number of slots that are left. Assumes nothing.
 use Prim.Native.Nat.{_≤_, _-_}
 use mathlib.Core.Path.{_≡_}
@@ -6,14 +6,14 @@ use native.Mathlib.Omega.{arith}
 use lib.ListN.{length}
 use Rattle.io.proofs.Counting.{counts}
 use borrow.Author.Needs.{needs}
-use Rattle.script.proofs.answers.put_alerts.Statement.{statement}
-use Rattle.script.proofs.answers.put_alerts.Tie as tie
+use Rattle.answers.proofs.result.put_alerts.Statement.{statement}
+use Rattle.answers.proofs.result.put_alerts.Tie as tie
 
 abbrev Inv-loop : tie.InvT-loop
-Inv-loop line₀ at result count end₀ i₀ line end i = (end ≤ length line) × (i ≤ 4) × (length line ≡ length line₀)
+Inv-loop line₀ at names result count end₀ i₀ line end i = (end ≤ length line) × (i ≤ 4) × (length line ≡ length line₀)
 
 abbrev μ-loop : tie.MeasureT-loop
-μ-loop line₀ at result count end₀ i₀ line end i = 4 - i
+μ-loop line₀ at names result count end₀ i₀ line end i = 4 - i
 
 cast-count : tie.Need-cast-count Inv-loop μ-loop
 cast-count c = search needs

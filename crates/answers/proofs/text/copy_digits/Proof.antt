@@ -1,11 +1,11 @@
--- `script::text::copy_digits` stays within the line and the digits. The loop's invariant: it has copied at most n octets, and the line has
+-- `answers::text::copy_digits` stays within the line and the digits. The loop's invariant: it has copied at most n octets, and the line has
 -- kept its length. The measure is what is left of them. Assumes nothing.
 use Prim.Native.Nat.{_≤_, _-_}
 use mathlib.Core.Path.{_≡_}
 use lib.ListN.{length}
 use borrow.Author.Needs.{needs}
-use Rattle.script.proofs.text.copy_digits.Statement.{statement}
-use Rattle.script.proofs.text.copy_digits.Tie as tie
+use Rattle.answers.proofs.text.copy_digits.Statement.{statement}
+use Rattle.answers.proofs.text.copy_digits.Tie as tie
 
 abbrev Inv-loop : tie.InvT-loop
 Inv-loop line₀ at digits first n i₀ line i = (i ≤ n) × (length line ≡ length line₀)

@@ -1,8 +1,8 @@
--- `script::text::digits_of` stays within the digits. The loop's invariant: the place is at most 20. The measure is the place. Assumes nothing.
+-- `answers::text::digits_of` stays within the digits. The loop's invariant: the place is at most 20. The measure is the place. Assumes nothing.
 use Prim.Native.Nat.{_≤_}
 use borrow.Author.Needs.{needs}
-use Rattle.script.proofs.text.digits_of.Statement.{statement}
-use Rattle.script.proofs.text.digits_of.Tie as tie
+use Rattle.answers.proofs.text.digits_of.Statement.{statement}
+use Rattle.answers.proofs.text.digits_of.Tie as tie
 
 abbrev Inv-loop : tie.InvT-loop
 Inv-loop number digits₀ rest₀ i₀ digits rest i = i ≤ 20

@@ -2,21 +2,29 @@
 ghost use Prim.Native.Nat.{_≤_};
 ghost use lib.ListN.{length};
 ghost use Rattle.io.specs.Counts.{Counts};
-use crate::answers::put_bucket;
-use crate::answers::put_parsed;
-use crate::answers::put_service;
-use crate::arguments::rest_at;
-use crate::arguments::u16_at;
-use crate::arguments::u32_at;
-use crate::arguments::u64_at;
-use crate::frames::schedule;
+use crate::frame::put_parsed;
 use crate::text::put_flag;
 use crate::text::put_number;
+use records::bucket::BucketCall;
 use records::bucket::RateBucket;
 use records::schedule::RetxSchedule;
 use records::service::MmsServiceType;
+use script::arguments::rest_at;
+use script::arguments::u16_at;
+use script::arguments::u32_at;
+use script::arguments::u64_at;
+use script::frames::schedule;
 use wire::number::octet_at;
 use wire::sv::parse_sv;
+
+// Puts a service: its number, and whether it writes.
+fn put_service(line: &mut [u8], at: usize, service: MmsServiceType) -> usize
+    requires { ⌜ at ≤ length (now line) ⌝ }
+    ensures { λ r. ⌜ Counts r (now (line .exit)) ⌝ }
+{
+    let end = put_number(line, at, b"service ", service.number() as u64);
+    put_flag(line, end, b" write ", service.is_write())
+}
 
 // Call 17: a raw number.
 fn put_service_call(call: &[u8], line: &mut [u8], at: usize) -> usize
@@ -63,6 +71,18 @@ pub fn put_parsing(call: &[u8], line: &mut [u8], at: usize) -> usize
     let answer = parsed.answer;
     let frame = parsed.frame;
     put_parsed(line, at, answer, frame)
+}
+
+// Puts a bucket after a call, and first whether the call was allowed.
+fn put_bucket(line: &mut [u8], at: usize, called: BucketCall) -> usize
+    requires { ⌜ at ≤ length (now line) ⌝ }
+    ensures { λ r. ⌜ Counts r (now (line .exit)) ⌝ }
+{
+    let bucket = called.bucket;
+    let mut end = put_flag(line, at, b"bucket ", called.allowed);
+    end = put_number(line, end, b" ", bucket.tokens as u64);
+    end = put_number(line, end, b" ", bucket.capacity as u64);
+    put_number(line, end, b" ", bucket.last_refill_us)
 }
 
 // Call 20: a bucket's tokens, capacity and last refill, and a time.

@@ -1,4 +1,4 @@
--- `script::text::put_all_hex` stays within the line. The loop's invariant: it has put at most the octets, and the line has kept its length. The
+-- `answers::text::put_all_hex` stays within the line. The loop's invariant: it has put at most the octets, and the line has kept its length. The
 -- measure is what is left of the octets. Assumes nothing.
 use Prim.Native.Nat.{_≤_, _-_}
 use mathlib.Core.Path.{_≡_}
@@ -6,8 +6,8 @@ use native.Mathlib.Omega.{arith}
 use lib.ListN.{length, length-set}
 use Rattle.io.proofs.Counting.{counts}
 use borrow.Author.Needs.{needs}
-use Rattle.script.proofs.text.put_all_hex.Statement.{statement}
-use Rattle.script.proofs.text.put_all_hex.Tie as tie
+use Rattle.answers.proofs.text.put_all_hex.Statement.{statement}
+use Rattle.answers.proofs.text.put_all_hex.Tie as tie
 
 abbrev Inv-loop : tie.InvT-loop
 Inv-loop line₀ at octets i₀ line i = (i ≤ length octets) × (length line ≡ length line₀)

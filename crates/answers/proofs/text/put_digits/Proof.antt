@@ -1,10 +1,10 @@
--- `script::text::put_digits` stays within the line: it copies at most the octets that there is room for. Assumes nothing.
+-- `answers::text::put_digits` stays within the line: it copies at most the octets that there is room for. Assumes nothing.
 use native.Mathlib.Omega.{arith}
 use lib.ListN.{length}
 use Rattle.io.proofs.Counting.{counts}
 use borrow.Author.Needs.{needs}
-use Rattle.script.proofs.text.put_digits.Statement.{statement}
-use Rattle.script.proofs.text.put_digits.Tie as tie
+use Rattle.answers.proofs.text.put_digits.Statement.{statement}
+use Rattle.answers.proofs.text.put_digits.Tie as tie
 
 digits-of-requires : tie.Need-digits-of-requires
 digits-of-requires c κs = search needs
