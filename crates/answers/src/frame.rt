@@ -3,10 +3,10 @@ ghost use Prim.Native.Nat.{_≤_};
 ghost use lib.ListN.{length};
 ghost use Rattle.io.specs.Counts.{Counts};
 use crate::refusal::put_error;
-use crate::text::put_hex;
-use crate::text::put_number;
 use records::frame::SvFrame;
-use script::text::put_octets;
+use text::put::put_hex;
+use text::put::put_number;
+use text::put::put_octets;
 use wire::sv::Parsed;
 
 // Puts a name's stated length and all its octets.

@@ -4,5 +4,4 @@ pub mod names;
 pub mod queries;
 pub mod refusal;
 pub mod result;
-mod text;
 pub mod totals;

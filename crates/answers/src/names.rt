@@ -2,8 +2,8 @@
 ghost use Prim.Native.Nat.{_≤_};
 ghost use lib.ListN.{length};
 ghost use Rattle.io.specs.Counts.{Counts};
-use script::text::put_octets;
-use script::words::short_word_end;
+use text::put::put_octets;
+use text::words::short_word_end;
 use wire::number::least;
 
 // The names of the 43 alert codes by their numbers, and behind them those of the five severities, each in 24 octets.

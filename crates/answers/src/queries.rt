@@ -3,8 +3,6 @@ ghost use Prim.Native.Nat.{_≤_};
 ghost use lib.ListN.{length};
 ghost use Rattle.io.specs.Counts.{Counts};
 use crate::frame::put_parsed;
-use crate::text::put_flag;
-use crate::text::put_number;
 use records::bucket::BucketCall;
 use records::bucket::RateBucket;
 use records::schedule::RetxSchedule;
@@ -14,6 +12,8 @@ use script::arguments::u16_at;
 use script::arguments::u32_at;
 use script::arguments::u64_at;
 use script::frames::schedule;
+use text::put::put_flag;
+use text::put::put_number;
 use wire::number::octet_at;
 use wire::sv::parse_sv;
 

@@ -2,9 +2,9 @@
 ghost use Prim.Native.Nat.{_≤_};
 ghost use lib.ListN.{length};
 ghost use Rattle.io.specs.Counts.{Counts};
-use crate::text::put_number;
 use script::line::Line;
-use script::text::put_octets;
+use text::put::put_number;
+use text::put::put_octets;
 
 // Puts the error's number.
 pub fn put_error(line: &mut [u8], at: usize, number: u8) -> usize

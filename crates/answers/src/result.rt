@@ -4,12 +4,12 @@ ghost use lib.ListN.{length};
 ghost use Rattle.io.specs.Counts.{Counts};
 use crate::names::SEVERITIES;
 use crate::names::put_name;
-use crate::text::put_flag;
-use crate::text::put_number;
 use records::alert::CodedAlert;
 use records::alert::SecurityAlert;
 use records::result::InspectResult;
-use script::text::put_octets;
+use text::put::put_flag;
+use text::put::put_number;
+use text::put::put_octets;
 
 // Whether all octets of a hash are 0.
 fn is_zero(hash: [u8; 32]) -> bool {

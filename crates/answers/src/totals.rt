@@ -2,8 +2,6 @@
 ghost use Prim.Native.Nat.{_≤_};
 ghost use lib.ListN.{length};
 ghost use Rattle.io.specs.Counts.{Counts};
-use crate::text::put_flag;
-use crate::text::put_number;
 use monitor::parts::WORDS;
 use monitor::settings::STRICT_MODE;
 use monitor::settings::flag_on;
@@ -12,7 +10,9 @@ use monitor::totals::MMS_TOTAL_INSPECTED;
 use monitor::totals::SV_TOTAL_INSPECTED;
 use monitor::totals::TOTAL_ALERTS;
 use monitor::totals::total_on;
-use script::text::put_octets;
+use text::put::put_flag;
+use text::put::put_number;
+use text::put::put_octets;
 
 // Puts the totals.
 fn put_totals(line: &mut [u8], at: usize, m: &[u64; WORDS]) -> usize

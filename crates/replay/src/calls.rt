@@ -36,7 +36,7 @@ use script::frames::goose_frame;
 use script::frames::mms_frame;
 use script::frames::schedule;
 use script::frames::sv_frame;
-use script::text::put_octets;
+use text::put::put_octets;
 use wire::number::octet_at;
 
 // One of the calls 0 to 9, which answer nothing; call 3 asks for the totals, which every line has.

@@ -15,6 +15,7 @@ use script::input::behind_line;
 use script::input::find_line;
 use script::input::read_found;
 use script::input::refilled;
+use script::line::CALLS;
 use script::line::Line;
 use wire::number::least;
 
@@ -71,7 +72,13 @@ fn read_on(run: Run, buffer: &mut [u8], output: &[u8]) -> Run {
 }
 
 // Reads the next line if the buffer has all of it. If not, reads on. The line that the end of the input ends is the last.
-fn read_next(run: Run, buffer: &mut [u8], call: &mut [u8], output: &mut [u8]) -> Run {
+fn read_next(
+    run: Run,
+    calls: &[u8; 756],
+    buffer: &mut [u8],
+    call: &mut [u8],
+    output: &mut [u8],
+) -> Run {
     let mut out = run;
     let places = run.input;
     let input = find_line(places, buffer);
@@ -82,7 +89,7 @@ fn read_next(run: Run, buffer: &mut [u8], call: &mut [u8], output: &mut [u8]) ->
         }
         out.more = false;
     }
-    let line = read_found(input, buffer, call);
+    let line = read_found(input, calls, buffer, call);
     let next = behind_line(input);
     out.input = next;
     note_line(out, line, output)
@@ -91,6 +98,7 @@ fn read_next(run: Run, buffer: &mut [u8], call: &mut [u8], output: &mut [u8]) ->
 // Reads the next line, or writes the answers first if there is no room for another, which has at most 2048 octets.
 fn next_call(
     run: Run,
+    calls: &[u8; 756],
     buffer: &mut [u8; 262144],
     call: &mut [u8; 262144],
     output: &mut [u8; 65536],
@@ -98,7 +106,7 @@ fn next_call(
     let mut out = run;
     out.call_end = 0;
     if run.end <= 63488 {
-        return read_next(out, buffer, call, output);
+        return read_next(out, calls, buffer, call, output);
     }
     out.more = write_answers(output, run.end);
     out.end = 0;
@@ -147,13 +155,14 @@ fn main() {
     let mut buffer = [0u8; 262144];
     let mut call = [0u8; 262144];
     let mut output = [0u8; 65536];
+    let calls = CALLS;
     let names = NAMES;
     let mut words = [0u64; WORDS];
     new_on(&mut words, false);
     let mut run = new_run();
     let mut turns = u64::MAX;
     while turns > 0 && run.more {
-        run = next_call(run, &mut buffer, &mut call, &mut output);
+        run = next_call(run, &calls, &mut buffer, &mut call, &mut output);
         run = answer_call(run, &mut words, &call, &names, &mut output);
         turns -= 1;
     }

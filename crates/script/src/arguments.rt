@@ -2,7 +2,7 @@
 // that no sum of places overflows.
 ghost use Prim.Native.Nat.{_+_, _≤_};
 ghost use lib.ListN.{length};
-use crate::values::wide;
+use text::values::wide;
 use wire::number::least;
 use wire::number::octet_at;
 

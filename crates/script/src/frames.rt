@@ -1,5 +1,4 @@
-// The frames and the schedule of a call, out of its record: the number octet, which `call_number` of `line` gives to the call's name, and
-// the arguments at fixed places, by `kinds_of` of `line`.
+// The frames and the schedule of a call, out of its record: the number octet, and the arguments at places that their kinds decide (`CALLS` of `line`).
 use crate::arguments::flag_at;
 use crate::arguments::mac_at;
 use crate::arguments::name_at;

@@ -88,14 +88,14 @@ pub fn find_line(input: Input, buffer: &[u8]) -> Input {
 }
 
 // Reads the line that ends where the search did. One that no line feed ends is the last, and too long if it fills the buffer.
-pub fn read_found(input: Input, buffer: &[u8], call: &mut [u8]) -> Line {
+pub fn read_found(input: Input, calls: &[u8; 756], buffer: &[u8], call: &mut [u8]) -> Line {
     let places = within(input, buffer.len());
     let start = places.start;
     let end = places.searched;
     if end >= buffer.len() {
         return Line::TooLong;
     }
-    read_line(&buffer[start..end], call)
+    read_line(calls, &buffer[start..end], call)
 }
 
 // The places after a line whose line feed was found.

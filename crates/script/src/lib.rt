@@ -4,6 +4,3 @@ pub mod frames;
 pub mod input;
 pub mod line;
 mod store;
-pub mod text;
-mod values;
-pub mod words;

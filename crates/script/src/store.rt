@@ -2,15 +2,15 @@
 // place behind what it stored; numbers stand most significant octet first.
 ghost use Prim.Native.Nat.{_+_, _≤_};
 ghost use lib.ListN.{length};
-use crate::text::put_octets;
-use crate::values::Digits;
-use crate::values::Number;
-use crate::values::decimal;
-use crate::values::digits_at;
-use crate::values::name_start;
-use crate::values::word_octets;
-use crate::words::ends_at;
-use crate::words::word_end;
+use text::put::put_octets;
+use text::values::Digits;
+use text::values::Number;
+use text::values::decimal;
+use text::values::digits_at;
+use text::values::name_start;
+use text::values::word_octets;
+use text::words::ends_at;
+use text::words::word_end;
 
 // The place behind the argument, and whether the word is as it must be.
 pub struct Stored {
@@ -31,17 +31,6 @@ fn malformed() -> Stored
     Stored {
         end: 0,
         good: false,
-    }
-}
-
-// Stores octets that are as they must be.
-fn put_good(octets: &[u8], call: &mut [u8], at: usize) -> Stored
-    requires { ⌜ at ≤ length (now call) ⌝ }
-    ensures { λ r. ⌜ r .end ≤ length (now (call .exit)) ⌝ }
-{
-    Stored {
-        end: put_octets(call, at, octets),
-        good: true,
     }
 }
 
@@ -143,10 +132,13 @@ fn store_flag(word: &[u8], call: &mut [u8], at: usize) -> Stored
     if word.len() != 1 {
         return malformed();
     }
-    match word[0] {
-        b'0' => put_good(b"\x00", call, at),
-        b'1' => put_good(b"\x01", call, at),
-        _ => malformed(),
+    let digit = word[0] ^ 48;
+    if digit > 1 {
+        return malformed();
+    }
+    Stored {
+        end: put_octets(call, at, &[digit]),
+        good: true,
     }
 }
 
@@ -276,7 +268,7 @@ fn number_octets(kind: u8) -> usize
     }
 }
 
-// An argument of a kind, which the table of `script` has. Its word begins at a place of a line.
+// An argument of a kind, which the table of calls has. Its word begins at a place of a line.
 pub fn store_argument(kind: u8, line: &[u8], word: usize, call: &mut [u8], at: usize) -> Argument
     requires { ⌜ word ≤ length (now line) ⌝ }
     requires { ⌜ at ≤ length (now call) ⌝ }

@@ -5,10 +5,10 @@ use Rattle.replay.proofs.main.Statement.{statement}
 use Rattle.replay.proofs.main.Tie as tie
 
 abbrev Inv-loop : tie.InvT-loop
-Inv-loop buffer₀ call₀ output₀ names words₀ run₀ turns₀ buffer call output words run turns = Unit {0}
+Inv-loop buffer₀ call₀ output₀ calls names words₀ run₀ turns₀ buffer call output words run turns = Unit {0}
 
 abbrev μ-loop : tie.MeasureT-loop
-μ-loop buffer₀ call₀ output₀ names words₀ run₀ turns₀ buffer call output words run turns = turns
+μ-loop buffer₀ call₀ output₀ calls names words₀ run₀ turns₀ buffer call output words run turns = turns
 
 pub main-spec : {M : Type 1} → statement M
 main-spec =

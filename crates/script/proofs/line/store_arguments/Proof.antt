@@ -1,4 +1,4 @@
--- `script::script::store_arguments` stays within the line, the kinds and the record. The loop's invariant: each of the three places is so,
+-- `script::line::store_arguments` stays within the line, the kinds and the record. The loop's invariant: each of the three places is so,
 -- and the record has kept its length. The measure is the number of kinds that are left. Assumes nothing.
 use Prim.Native.Nat.{_≤_, _-_}
 use mathlib.Core.Path.{_≡_}
@@ -16,14 +16,14 @@ abbrev μ-loop : tie.MeasureT-loop
 loop-holds : tie.Need-loop-holds Inv-loop μ-loop
 loop-holds c = search needs
 
-element-copy-out-if1 : tie.Need-element-copy-out-if1 Inv-loop μ-loop
-element-copy-out-if1 c = search needs
+shared-slice-read-if1 : tie.Need-shared-slice-read-if1 Inv-loop μ-loop
+shared-slice-read-if1 c = search needs
 
 word-start-requires : tie.Need-word-start-requires Inv-loop μ-loop
 word-start-requires c κs = search needs
 
-add-t18 : tie.Need-add-t18 Inv-loop μ-loop
-add-t18 c = search needs
+add-t17 : tie.Need-add-t17 Inv-loop μ-loop
+add-t17 c = search needs
 
 same-length : tie.Need-same-length Inv-loop μ-loop
 same-length c = search needs
@@ -31,14 +31,14 @@ same-length c = search needs
 returns : tie.Need-returns Inv-loop μ-loop
 returns c = search needs
 
-element-copy-out-store-argument : tie.Need-element-copy-out-store-argument Inv-loop μ-loop
-element-copy-out-store-argument c = search needs
+shared-slice-read-store-argument : tie.Need-shared-slice-read-store-argument Inv-loop μ-loop
+shared-slice-read-store-argument c = search needs
 
 store-argument-requires : tie.Need-store-argument-requires Inv-loop μ-loop
 store-argument-requires c κs = search needs
 
-add-t24 : tie.Need-add-t24 Inv-loop μ-loop
-add-t24 c = search needs
+add-t22 : tie.Need-add-t22 Inv-loop μ-loop
+add-t22 c = search needs
 
 same-length-2 : tie.Need-same-length-2 Inv-loop μ-loop
 same-length-2 c = search needs
@@ -58,8 +58,8 @@ loop-again c = search needs
 word-start-requires-2 : tie.Need-word-start-requires-2 Inv-loop μ-loop
 word-start-requires-2 c κs = search needs
 
-add-t28 : tie.Need-add-t28 Inv-loop μ-loop
-add-t28 c = search needs
+add-t26 : tie.Need-add-t26 Inv-loop μ-loop
+add-t26 c = search needs
 
 same-length-3 : tie.Need-same-length-3 Inv-loop μ-loop
 same-length-3 c = search needs
@@ -80,21 +80,21 @@ store-arguments-spec =
     Inv-loop
     μ-loop
     loop-holds
-    element-copy-out-if1
+    shared-slice-read-if1
     word-start-requires
-    add-t18
+    add-t17
     same-length
     returns
-    element-copy-out-store-argument
+    shared-slice-read-store-argument
     store-argument-requires
-    add-t24
+    add-t22
     same-length-2
     returns-2
     add-k
     loop-less
     loop-again
     word-start-requires-2
-    add-t28
+    add-t26
     same-length-3
     returns-3
     same-length-4

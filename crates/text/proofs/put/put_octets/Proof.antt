@@ -1,0 +1,13 @@
+-- `text::put::put_octets` stays within the line. Assumes nothing.
+use native.Mathlib.Omega.{arith}
+use Rattle.io.proofs.Counting.{counts}
+use borrow.Author.Needs.{needs}
+use Rattle.text.proofs.put.put_octets.Statement.{statement}
+use Rattle.text.proofs.put.put_octets.Tie as tie
+
+returns : tie.Need-returns
+returns c = counts _ _ (omega arith)
+
+pub put-octets-spec : {M : Type 1} → statement M
+put-octets-spec =
+    tie.close (tie.spec (λ c. search needs) returns (λ c κs. search needs) (λ c. search needs) (λ c. search needs))
