@@ -10,7 +10,7 @@ ghost use Rattle.checks.specs.Keys.{plainKey, reservationKey};
 ghost use Rattle.monitor.specs.Monitor.{monitorOf};
 ghost use Rattle.inspection.specs.InspectGoose.{streamFindings, retransmitted, gooseTimeField, gooseReservation, gooseUnknown};
 ghost use Rattle.inspection.specs.InspectGoose.{gooseReadBy, gooseTest, blocked, checkedGoose, inspectGoose};
-ghost use Rattle.inspection.specs.Report.{clockFindings, findingsOf, alertsOf, withVerdict};
+ghost use Rattle.inspection.specs.Report.{clockFindings, findingsOf, alertsOf};
 use crate::address::address_of;
 use crate::clock::clock_checked;
 use crate::hijack::hijacked;
@@ -19,7 +19,6 @@ use crate::report::CheckAlerts;
 use crate::report::clock_alert;
 use crate::report::one_alert;
 use crate::report::report_on;
-use crate::report::verdict_on;
 use checks::keys::goose_key;
 use checks::keys::plain_key;
 use monitor::parts::WORDS;
@@ -193,12 +192,4 @@ pub fn inspect_goose_on(m: &mut [u64; WORDS], frame: GooseFrame) -> InspectResul
         frame.st_num,
         frame.timestamp_us,
     )
-}
-
-// The same, and answers the verdict.
-pub fn goose_verdict_on(m: &mut [u64; WORDS], frame: GooseFrame) -> [u8; 8]
-    ensures { λ r. ⌜ record { monitor = monitorOf (now (m .exit)); answer = r } ≡ withVerdict (inspectGoose (monitorOf (now (m .entry))) frame) ⌝ }
-{
-    let alerts = check_goose_on(m, frame);
-    verdict_on(m, alerts)
 }

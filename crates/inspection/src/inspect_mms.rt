@@ -5,13 +5,12 @@ ghost use Rattle.monitor.specs.Monitor.{monitorOf};
 ghost use Rattle.monitor.specs.Settings.{strictMode};
 ghost use Rattle.inspection.specs.InspectMms.{controlKey, fullFindings, releases, mmsControl, overRate, mmsRate, mmsApplying, masked};
 ghost use Rattle.inspection.specs.InspectMms.{mmsRule, mmsChecks, checkedMms, inspectMms};
-ghost use Rattle.inspection.specs.Report.{findingsOf, alertsOf, withVerdict};
+ghost use Rattle.inspection.specs.Report.{findingsOf, alertsOf};
 use crate::report::CheckAlert;
 use crate::report::CheckAlerts;
 use crate::report::RuleCheck;
 use crate::report::one_alert;
 use crate::report::report_on;
-use crate::report::verdict_on;
 use checks::keys::reservation_key;
 use checks::mms_rule::has_bit;
 use monitor::parts::WORDS;
@@ -200,12 +199,4 @@ pub fn inspect_mms_on(m: &mut [u64; WORDS], frame: MmsFrame) -> InspectResult
         frame.invoke_id,
         frame.timestamp_us,
     )
-}
-
-// The same, and answers the verdict.
-pub fn mms_verdict_on(m: &mut [u64; WORDS], frame: MmsFrame) -> [u8; 8]
-    ensures { λ r. ⌜ record { monitor = monitorOf (now (m .exit)); answer = r } ≡ withVerdict (inspectMms (monitorOf (now (m .entry))) frame) ⌝ }
-{
-    let alerts = check_mms_on(m, frame);
-    verdict_on(m, alerts)
 }
