@@ -12,13 +12,17 @@ use Rattle.tables.specs.Named.{hasKey, keyStored}
 use Rattle.checks.specs.Keys.{plainKey}
 use Rattle.checks.specs.Rules.{ruleCount, addAnswer, RuleAdded, ruleAdded}
 
+-- how many publishers there are
+abbrev pub goosePublisherCount : List ℕ → ℕ
+goosePublisherCount p = getD p 176 0
+
 -- whether the rule at a place fits an address and a control block's name
 unfoldable pub gooseFitsAt : List ℕ → ℕ → List ℕ → ℕ → Bool
 gooseFitsAt p address name i = eqb (wordOf p 0 i) address && (eqb (wordOf p 32 i) 0 || hasKey 16 p name i)
 
 -- the place of the first rule that fits
 unfoldable pub goosePublisher : List ℕ → ℕ → List ℕ → Found
-goosePublisher p address name = firstFrom (gooseFitsAt p address name) 0 (ruleCount (getD p 176 0))
+goosePublisher p address name = firstFrom (gooseFitsAt p address name) 0 (ruleCount (goosePublisherCount p))
 
 -- with one more rule at a place, behind the others
 unfoldable pub withGoosePublisher : List ℕ → ℕ → ℕ → List ℕ → List ℕ
@@ -27,4 +31,4 @@ withGoosePublisher p i address name = set (keyStored 16 (wordSet p 0 i address) 
 -- an add call
 unfoldable pub gooseAdded : List ℕ → ℕ → List ℕ → RuleAdded
 gooseAdded p address name =
-    ruleAdded (addAnswer (getD p 176 0) (length name)) (withGoosePublisher p (ruleCount (getD p 176 0)) address (plainKey name)) p
+    ruleAdded (addAnswer (goosePublisherCount p) (length name)) (withGoosePublisher p (ruleCount (goosePublisherCount p)) address (plainKey name)) p

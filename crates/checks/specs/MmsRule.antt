@@ -19,9 +19,13 @@ hasBit mask raw = ltb raw 16 && eqb (mask / 2 ^ raw % 2) 1
 unfoldable pub applies : ℕ → ℕ → Bool
 applies mask raw = eqb mask 0xFFFF || hasBit mask raw
 
+-- how many rules there are
+abbrev pub mmsRuleCount : List ℕ → ℕ
+mmsRuleCount p = getD p 48 0
+
 -- the place of the first rule that applies
 unfoldable pub firstRule : List ℕ → ℕ → Found
-firstRule p raw = firstFrom (λ i. applies (getD p i 0) raw) 0 (ruleCount (getD p 48 0))
+firstRule p raw = firstFrom (λ i. applies (getD p i 0) raw) 0 (ruleCount (mmsRuleCount p))
 
 -- whether the rule at a place is read-only, and its rate
 abbrev pub ruleReadOnly : List ℕ → ℕ → Bool
@@ -36,4 +40,4 @@ withMmsRule p i mask readOnly rate = set (wordSet (wordSet (wordSet p 0 i mask) 
 
 -- an add call; a rule has no name
 unfoldable pub mmsAdded : List ℕ → ℕ → Bool → ℕ → RuleAdded
-mmsAdded p mask readOnly rate = ruleAdded (addAnswer (getD p 48 0) 0) (withMmsRule p (ruleCount (getD p 48 0)) mask readOnly rate) p
+mmsAdded p mask readOnly rate = ruleAdded (addAnswer (mmsRuleCount p) 0) (withMmsRule p (ruleCount (mmsRuleCount p)) mask readOnly rate) p

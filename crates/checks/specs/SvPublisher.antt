@@ -15,6 +15,10 @@ use Rattle.checks.specs.declared.sv_publisher.PublisherMatch.the-variant
 use Rattle.checks.specs.Keys.{plainKey}
 use Rattle.checks.specs.Rules.{ruleCount, addAnswer, RuleAdded, ruleAdded}
 
+-- how many publishers there are
+abbrev pub svPublisherCount : List ℕ → ℕ
+svPublisherCount p = getD p 192 0
+
 -- whether a rule has this address
 abbrev pub hasAddress : List ℕ → ℕ → ℕ → Bool
 hasAddress p address i = eqb (getD p i 0) address
@@ -27,8 +31,8 @@ matchAt isRegistered Nothing = cond isRegistered WrongAddress NotRegistered
 -- how an svID and an address match the rules
 unfoldable pub svPublisher : List ℕ → ℕ → List ℕ → PublisherMatch
 svPublisher p address svid =
-    matchAt (isFound (lastBelow (λ i. hasKey 16 p svid i) (ruleCount (getD p 192 0))))
-    (lastBelow (λ i. hasKey 16 p svid i && hasAddress p address i) (ruleCount (getD p 192 0)))
+    matchAt (isFound (lastBelow (λ i. hasKey 16 p svid i) (ruleCount (svPublisherCount p))))
+    (lastBelow (λ i. hasKey 16 p svid i && hasAddress p address i) (ruleCount (svPublisherCount p)))
 
 -- with one more rule at a place, behind the others
 unfoldable pub withSvPublisher : List ℕ → ℕ → ℕ → List ℕ → ℕ → List ℕ
@@ -41,4 +45,4 @@ publisherRate p i = min (wordOf p 176 i) 65535
 -- an add call
 unfoldable pub svAdded : List ℕ → ℕ → List ℕ → ℕ → RuleAdded
 svAdded p address svid rate =
-    ruleAdded (addAnswer (getD p 192 0) (length svid)) (withSvPublisher p (ruleCount (getD p 192 0)) address (plainKey svid) rate) p
+    ruleAdded (addAnswer (svPublisherCount p) (length svid)) (withSvPublisher p (ruleCount (svPublisherCount p)) address (plainKey svid) rate) p

@@ -23,7 +23,7 @@ use Rattle.checks.specs.declared.sv_publisher.PublisherMatch.the-variants.{NotR
 use Rattle.checks.specs.GooseSeq.{GooseChecked, gooseChecked}
 use Rattle.checks.specs.Keys.{plainKey}
 use Rattle.checks.specs.Reservation.{CbChecked, boundBy, cbChecked}
-use Rattle.checks.specs.SvPublisher.{svPublisher}
+use Rattle.checks.specs.SvPublisher.{svPublisherCount, svPublisher}
 use Rattle.checks.specs.SvSeq.{SvChecked, svChecked}
 use Rattle.checks.specs.TimeField.{TimeChecked, timeChecked}
 use Rattle.monitor.specs.Monitor.{Monitor, withGooseSeq, withSvSeq, withTimeTrackers, withCbReservations, withTotals}
@@ -76,7 +76,7 @@ not-bound t key address e =
     cond-holds (λ (c : CbChecked). c ≡ record { table = t; hijack = false }) (eqb (getD key 1 0) 0) refl
     (ap (boundBy t address) (none-found named t key (ap allFree e ∙ none-free 210 (omega arith))))
 
-not-registered : (p : List ℕ) (address : ℕ) (svid : List ℕ) → getD p 192 0 ≡ 0 → svPublisher p address svid ≡ NotRegistered
+not-registered : (p : List ℕ) (address : ℕ) (svid : List ℕ) → svPublisherCount p ≡ 0 → svPublisher p address svid ≡ NotRegistered
 unfolding svPublisher lastBelow
 not-registered p address svid e = rw e
 

@@ -5,7 +5,7 @@ use mathlib.Core.List.{List, [], _∷_, _++_, map, foldl, reverse}
 use mathlib.Core.Logic.{_≢_, _↔_}
 use mathlib.Core.Path.{_≡_}
 use native.Mathlib.Decide.{ℕ-discrete}
-use lib.ListN.{length, take, getD}
+use lib.ListN.{length, take}
 use Rattle.records.specs.declared.alert.CodedAlert.{CodedAlert}
 use Rattle.records.specs.declared.frame.GooseFrame.{GooseFrame}
 use Rattle.records.specs.declared.frame.SvFrame.{SvFrame}
@@ -18,6 +18,8 @@ use Rattle.records.specs.Remembered.{remembered}
 use Rattle.checks.specs.GooseSeq.{replays}
 use Rattle.checks.specs.SvSeq.{countOutcome, isReplay}
 use Rattle.checks.specs.TimeField.{hasClock}
+use Rattle.checks.specs.GoosePublisher.{goosePublisherCount}
+use Rattle.checks.specs.SvPublisher.{svPublisherCount}
 use Rattle.monitor.specs.Monitor.{Monitor}
 use Rattle.monitor.specs.Parts.{After}
 use Rattle.monitor.specs.Settings.{retxEnforce, timeMaxForwardJump}
@@ -118,8 +120,8 @@ JumpLimit limit = (1 ≤ limit) × (limit ≤ 4294967294)
 
 -- no publisher registered; retransmission enforcement off; forward-jump limit in range
 pub record Premises (m : Monitor) : Type 0 where
-  pub no-goose-publisher : getD (m .«goose_publishers») 176 0 ≡ 0
-  pub no-sv-publisher : getD (m .«sv_publishers») 192 0 ≡ 0
+  pub no-goose-publisher : goosePublisherCount (m .«goose_publishers») ≡ 0
+  pub no-sv-publisher : svPublisherCount (m .«sv_publishers») ≡ 0
   pub not-enforced : retxEnforce m ≡ false
   pub jump-limit : JumpLimit (timeMaxForwardJump m)
 

@@ -191,7 +191,7 @@ module _ (source number time : ℕ) where
     noted-at f (suc (suc (suc count))) x y z w h = absurd (omega (arith, h))
 
   -- a pushed alert takes one of four slots
-  one-pushed :
+  pub one-pushed :
       (p : Pushed) (f : Finding) → length (p .result .alerts) ≡ 4 → p .result .«alert_count» < 4
       → (length (reportedNext source number time p f .result .alerts) ≡ 4)
       × (reportedNext source number time p f .result .«alert_count» ≡ p .result .«alert_count» + 1)

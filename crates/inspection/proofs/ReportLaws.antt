@@ -18,6 +18,7 @@ use Rattle.records.specs.Result.{cleanResult, counted, withAlert, pushed}
 use Rattle.monitor.specs.Monitor.{Monitor}
 use Rattle.monitor.specs.Parts.{After}
 use Rattle.monitor.specs.Totals.{total, totalAlerts, alertCounters, withAlerts}
+use Rattle.inspection.proofs.AlertLaws.{one-pushed}
 use Rattle.inspection.specs.CallTheorems.{alertsIn, AtMostThree, nextNumber, numbersIn, numbersFrom}
 use Rattle.inspection.specs.Report.{Finding, Checked, reportedNext, alertsPushed, reported}
 
@@ -62,9 +63,10 @@ module _ (source sourceNumber time : ℕ) where
   pushes-one p a size h =
       let r = p .result in
       let full = lt-ltb (r .«alert_count») 4 h in
+      let one = one-pushed source sourceNumber time p a size h in
       record {
-        size = rw full (length-set (r .alerts) (r .«alert_count») _ ∙ size);
-        count = rw full;
+        size = one .0;
+        count = one .1;
         whole = rw full;
         total = λ n e. rw (full, e) (omega arith);
         next = λ n e. rw (full, e) (omega arith);

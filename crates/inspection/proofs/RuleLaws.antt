@@ -15,11 +15,11 @@ use Rattle.tables.specs.Column.{wordSet}
 use Rattle.tables.specs.Named.{keyStored}
 use Rattle.checks.specs.declared.rules.Added.{Added}
 use Rattle.checks.specs.declared.rules.Added.the-variants.{Rule, Error}
-use Rattle.checks.specs.GoosePublisher.{withGoosePublisher, gooseAdded}
+use Rattle.checks.specs.GoosePublisher.{goosePublisherCount, withGoosePublisher, gooseAdded}
 use Rattle.checks.specs.Keys.{flagWord, plainKey}
-use Rattle.checks.specs.MmsRule.{withMmsRule, mmsAdded}
+use Rattle.checks.specs.MmsRule.{mmsRuleCount, withMmsRule, mmsAdded}
 use Rattle.checks.specs.Rules.{ruleCount, addAnswer, ifAdded}
-use Rattle.checks.specs.SvPublisher.{withSvPublisher, svAdded}
+use Rattle.checks.specs.SvPublisher.{svPublisherCount, withSvPublisher, svAdded}
 
 -- ---- the answer: a full list, a long name, and neither
 
@@ -66,20 +66,20 @@ module _ (rules longer : List ℕ) (place len : ℕ) where
       go (no k) = rw (list-full (getD rules place 0) len (omega arith)) h
 
 module _ (rules : List ℕ) where
-  pub mms-count : (mask : ℕ) (on : Bool) (rate : ℕ) → getD rules 48 0 ≤ 16 → getD (mmsAdded rules mask on rate .rules) 48 0 ≤ 16
+  pub mms-count : (mask : ℕ) (on : Bool) (rate : ℕ) → mmsRuleCount rules ≤ 16 → getD (mmsAdded rules mask on rate .rules) 48 0 ≤ 16
   unfolding mmsAdded withMmsRule
   mms-count mask on rate =
-      let i = ruleCount (getD rules 48 0) in
+      let i = ruleCount (mmsRuleCount rules) in
       counts-added rules (wordSet (wordSet (wordSet rules 0 i mask) 16 i (flagWord on)) 32 i rate) 48 0
 
-  pub goose-count : (address : ℕ) (name : List ℕ) → getD rules 176 0 ≤ 16 → getD (gooseAdded rules address name .rules) 176 0 ≤ 16
+  pub goose-count : (address : ℕ) (name : List ℕ) → goosePublisherCount rules ≤ 16 → getD (gooseAdded rules address name .rules) 176 0 ≤ 16
   unfolding gooseAdded withGoosePublisher
   goose-count address name =
-      let i = ruleCount (getD rules 176 0) in
+      let i = ruleCount (goosePublisherCount rules) in
       counts-added rules (keyStored 16 (wordSet rules 0 i address) i (plainKey name)) 176 (length name)
 
-  pub sv-count : (address : ℕ) (svid : List ℕ) (rate : ℕ) → getD rules 192 0 ≤ 16 → getD (svAdded rules address svid rate .rules) 192 0 ≤ 16
+  pub sv-count : (address : ℕ) (svid : List ℕ) (rate : ℕ) → svPublisherCount rules ≤ 16 → getD (svAdded rules address svid rate .rules) 192 0 ≤ 16
   unfolding svAdded withSvPublisher
   sv-count address svid rate =
-      let i = ruleCount (getD rules 192 0) in
+      let i = ruleCount (svPublisherCount rules) in
       counts-added rules (wordSet (keyStored 16 (wordSet rules 0 i address) i (plainKey svid)) 176 i rate) 192 (length svid)

@@ -22,17 +22,16 @@ use Rattle.tables.specs.Table.{target, valueOf, stepped}
 use Rattle.tables.specs.WordTable.{Encoding, valueSet, wordTable, oneNumber, twoNumbers, threeNumbers}
 use Rattle.checks.specs.declared.rules.Added.{Added}
 use Rattle.checks.specs.declared.rules.Added.the-variants as added
-use Rattle.checks.specs.GoosePublisher.{withGoosePublisher, gooseAdded}
+use Rattle.checks.specs.GoosePublisher.{goosePublisherCount, withGoosePublisher, gooseAdded}
 use Rattle.checks.specs.GooseSeq.{keptNumbers, gooseChecked}
-use Rattle.checks.specs.MmsRule.{withMmsRule, mmsAdded}
+use Rattle.checks.specs.MmsRule.{mmsRuleCount, withMmsRule, mmsAdded}
 use Rattle.checks.specs.Rate.{newBucket, nextBucket, rateChecked}
 use Rattle.checks.specs.Reservation.{takenAt, placeFor, reservedAt, reserved, ownedSlot, freedSlot, allFreed, released}
 use Rattle.checks.specs.Reservation.{CbChecked, boundAt, boundBy, cbChecked}
 use Rattle.checks.specs.Rules.{addAnswer, ifAdded}
-use Rattle.checks.specs.SvPublisher.{withSvPublisher, svAdded}
+use Rattle.checks.specs.SvPublisher.{svPublisherCount, withSvPublisher, svAdded}
 use Rattle.checks.specs.SvSeq.{keptCount, svChecked}
 use Rattle.checks.specs.TimeField.{hasClock, TimeChecked, timeChecked}
-use Rattle.monitor.proofs.PartLaws.{part-length}
 use Rattle.monitor.specs.Monitor.{Monitor, monitorOf, Sized}
 use Rattle.monitor.specs.Reset.{newTotals, freshWith, newMonitor}
 use Rattle.monitor.specs.Settings.{newSettings}
@@ -131,15 +130,15 @@ module _ (t : List ℕ) where
 
   pub mms-added-long : (mask : ℕ) (readOnly : Bool) (rate : ℕ) → AsLong t (mmsAdded t mask readOnly rate .rules)
   unfolding mmsAdded withMmsRule
-  mms-added-long mask readOnly rate = added-long (addAnswer (getD t 48 0) 0) _ (simp (length-set, word-long) refl)
+  mms-added-long mask readOnly rate = added-long (addAnswer (mmsRuleCount t) 0) _ (simp (length-set, word-long) refl)
 
   pub goose-added-long : (address : ℕ) (name : List ℕ) → AsLong t (gooseAdded t address name .rules)
   unfolding gooseAdded withGoosePublisher
-  goose-added-long address name = added-long (addAnswer (getD t 176 0) (length name)) _ (simp (length-set, key-long, word-long) refl)
+  goose-added-long address name = added-long (addAnswer (goosePublisherCount t) (length name)) _ (simp (length-set, key-long, word-long) refl)
 
   pub sv-added-long : (address : ℕ) (svid : List ℕ) (rate : ℕ) → AsLong t (svAdded t address svid rate .rules)
   unfolding svAdded withSvPublisher
-  sv-added-long address svid rate = added-long (addAnswer (getD t 192 0) (length svid)) _ (simp (length-set, key-long, word-long) refl)
+  sv-added-long address svid rate = added-long (addAnswer (svPublisherCount t) (length svid)) _ (simp (length-set, key-long, word-long) refl)
 
 -- ---- a monitor
 
@@ -165,23 +164,6 @@ sized-kept {m} {m′} e z =
   where
     same : (k : ℕ) → getD (sizes m′) k 0 ≡ getD (sizes m) k 0
     same k = ap (λ (l : List ℕ). getD l k 0) e
-
--- the parts of 1148 words have their sizes
-pub words-sized : (l : List ℕ) → length l ≡ 1148 → Sized (monitorOf l)
-unfolding monitorOf
-words-sized l z =
-    record {
-      settings = part-length l 0 10 (omega arith);
-      totals = part-length l 10 5 (omega arith);
-      «mms_rules» = part-length l 15 49 (omega arith);
-      «goose_publishers» = part-length l 64 177 (omega arith);
-      «sv_publishers» = part-length l 241 193 (omega arith);
-      «rate_buckets» = part-length l 434 66 (omega arith);
-      «goose_seq» = part-length l 500 210 (omega arith);
-      «sv_seq» = part-length l 710 178 (omega arith);
-      «time_trackers» = part-length l 888 50 (omega arith);
-      «cb_reservations» = part-length l 938 210 (omega arith);
-    }
 
 length-zero : (n : ℕ) → length (zeroWords n) ≡ n
 unfolding zeroWords

@@ -6,7 +6,6 @@ use mathlib.Core.Path.{_≡_, refl, sym, ap, _∙_}
 use native.Mathlib.Omega.{arith}
 use borrow.Author.Tests.{lt-ltb, eq-eqb, ne-eqb}
 use lib.Dec.{ltb}
-use lib.ListN.{getD}
 use Rattle.records.specs.declared.error.VsError.{VsError}
 use Rattle.records.specs.declared.frame.GooseFrame.{GooseFrame}
 use Rattle.records.specs.declared.frame.MmsFrame.{MmsFrame}
@@ -28,10 +27,10 @@ use Rattle.checks.specs.declared.sv_publisher.PublisherMatch.{PublisherMatch}
 use Rattle.checks.specs.declared.sv_publisher.PublisherMatch.the-variants.{NotRegistered}
 use Rattle.checks.specs.declared.sv_seq.SvSeqOutcome.{SvSeqOutcome}
 use Rattle.checks.specs.declared.sv_seq.SvSeqOutcome.the-variants.{FirstSeen, Replay, ForwardGap, CycleWrap, SuspiciousSmpGap}
-use Rattle.checks.specs.GoosePublisher.{goosePublisher}
+use Rattle.checks.specs.GoosePublisher.{goosePublisherCount, goosePublisher}
 use Rattle.checks.specs.GooseSeq.{retxChecked}
 use Rattle.checks.specs.Keys.{plainKey}
-use Rattle.checks.specs.SvPublisher.{svPublisher}
+use Rattle.checks.specs.SvPublisher.{svPublisherCount, svPublisher}
 use Rattle.checks.specs.SvSeq.{isReplay}
 use Rattle.monitor.specs.Monitor.{Monitor}
 use Rattle.monitor.specs.Parts.{After, svSeqOn, gooseSeqOn, timeFieldOn, rateOn, reservedOn, releasedOn}
@@ -87,13 +86,13 @@ counted-checked checks x y = y ∙ ap checks x
 
 -- ---- SV
 
-none-match : (p : List ℕ) (address : ℕ) (svid : List ℕ) → getD p 192 0 ≡ 0 → svPublisher p address svid ≡ NotRegistered
+none-match : (p : List ℕ) (address : ℕ) (svid : List ℕ) → svPublisherCount p ≡ 0 → svPublisher p address svid ≡ NotRegistered
 unfolding svPublisher lastBelow
 none-match p address svid e = rw e
 
 module _ (m : Monitor) (address : ℕ) (svid : List ℕ) where
   -- without publishers there is no rate
-  pub no-publishers : {count : ℕ} → count ≡ getD (m .«sv_publishers») 192 0 → count ≡ 0 → Rate 0 ≡ svRule m address svid
+  pub no-publishers : {count : ℕ} → count ≡ svPublisherCount (m .«sv_publishers») → count ≡ 0 → Rate 0 ≡ svRule m address svid
   unfolding svRule
   no-publishers e h =
       sym
@@ -109,7 +108,7 @@ module _ (m : Monitor) (address : ℕ) (svid : List ℕ) where
 
   pub not-registered :
       {match : PublisherMatch} {count : ℕ} {strict : Bool} → match ≡ svPublisher (m .«sv_publishers») address svid → match ≡ NotRegistered
-      → count ≡ getD (m .«sv_publishers») 192 0 → ¬ (count ≡ 0) → strict ≡ strictMode m
+      → count ≡ svPublisherCount (m .«sv_publishers») → ¬ (count ≡ 0) → strict ≡ strictMode m
       → cond strict (Refused UnknownSvid) (Rate 0) ≡ svRule m address svid
   not-registered e h c d s =
       ap (λ (b : Bool). cond b (Refused UnknownSvid) (Rate 0))
@@ -183,7 +182,7 @@ module _ (m : Monitor) (n : GooseNumbers) {enforced : Bool} (e : enforced ≡ re
       q ∙ (λ i. retxChecked (s i) (m .«goose_seq») (k i) (timedNumbers n)) ∙ sym (and-yes (answered e h) refl)
 
 -- publishers exist, and whether one fits
-module _ (m : Monitor) (address : ℕ) (name : List ℕ) {count : ℕ} (e : count ≡ getD (m .«goose_publishers») 176 0) where
+module _ (m : Monitor) (address : ℕ) (name : List ℕ) {count : ℕ} (e : count ≡ goosePublisherCount (m .«goose_publishers»)) where
   pub unknown-to-none : count ≡ 0 → false ≡ gooseUnknown m address name
   unfolding gooseUnknown
   unknown-to-none h = rw (answered e h)

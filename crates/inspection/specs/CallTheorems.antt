@@ -4,7 +4,7 @@ use mathlib.Core.Bool.{Bool, false}
 use mathlib.Core.List.{List, [], _∷_, _++_, map}
 use mathlib.Core.Option.{Option, none, some}
 use mathlib.Core.Path.{_≡_}
-use lib.ListN.{length, take, getD}
+use lib.ListN.{length, take}
 use Rattle.records.specs.declared.alert.CodedAlert.{CodedAlert}
 use Rattle.records.specs.declared.error.VsError.{VsError}
 use Rattle.records.specs.declared.frame.MmsFrame.{MmsFrame}
@@ -20,6 +20,9 @@ use Rattle.wire.specs.Sv.{svFrame}
 use Rattle.checks.specs.declared.rules.Added.{Added}
 use Rattle.checks.specs.declared.rules.Added.the-variants as added
 use Rattle.checks.specs.Rules.{addAnswer}
+use Rattle.checks.specs.GoosePublisher.{goosePublisherCount}
+use Rattle.checks.specs.MmsRule.{mmsRuleCount}
+use Rattle.checks.specs.SvPublisher.{svPublisherCount}
 use Rattle.monitor.specs.Monitor.{Monitor, Sized}
 use Rattle.monitor.specs.Parts.{mmsAddedOn, gooseAddedOn, svAddedOn}
 use Rattle.monitor.specs.Reset.{newMonitor}
@@ -56,9 +59,9 @@ InspectionsKeepRules = (m : Monitor) (calls : List Call) → Inspections calls �
 
 -- at most 16 rules of each kind
 pub record AtMost16 (m : Monitor) : Type 0 where
-  pub mms : getD (m .«mms_rules») 48 0 ≤ 16
-  pub goose : getD (m .«goose_publishers») 176 0 ≤ 16
-  pub sv : getD (m .«sv_publishers») 192 0 ≤ 16
+  pub mms : mmsRuleCount (m .«mms_rules») ≤ 16
+  pub goose : goosePublisherCount (m .«goose_publishers») ≤ 16
+  pub sv : svPublisherCount (m .«sv_publishers») ≤ 16
 
 -- "At most 16 MMS rules, 16 GOOSE and 16 SV publishers": no calls lead to more
 abbrev pub RuleCountsHold : Type 0

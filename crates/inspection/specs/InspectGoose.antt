@@ -3,14 +3,13 @@ use Prim.Native.Nat.{ℕ}
 use mathlib.Core.Bool.{Bool, true, _&&_, not, cond}
 use mathlib.Core.List.{List, [], _++_}
 use lib.Dec.{ltb}
-use lib.ListN.{getD}
 use Rattle.records.specs.declared.frame.GooseFrame.{GooseFrame}
 use Rattle.records.specs.declared.result.InspectResult.{InspectResult}
 use Rattle.records.specs.Alert.{sourceGoose}
 use Rattle.records.specs.Hash.{fnv1a}
 use Rattle.records.specs.Name.{nameOf}
 use Rattle.records.specs.Search.{isFound}
-use Rattle.checks.specs.GoosePublisher.{goosePublisher}
+use Rattle.checks.specs.GoosePublisher.{goosePublisherCount, goosePublisher}
 use Rattle.checks.specs.GooseSeq.{retxChecked}
 use Rattle.checks.specs.Keys.{plainKey, gooseKey, reservationKey}
 use Rattle.monitor.specs.Monitor.{Monitor}
@@ -94,7 +93,7 @@ gooseReservation n reservation m = unlessHijacked (gooseTimeField n) (cbOn m res
 -- publishers exist, and none fits
 unfoldable pub gooseUnknown : Monitor → ℕ → List ℕ → Bool
 gooseUnknown m address name =
-    ltb 0 (getD (m .«goose_publishers») 176 0) && not (isFound (goosePublisher (m .«goose_publishers») address name))
+    ltb 0 (goosePublisherCount (m .«goose_publishers»)) && not (isFound (goosePublisher (m .«goose_publishers») address name))
 
 -- 10. publishers exist, none fits: High 6
 unfoldable pub gooseAllowed : Monitor → GooseRead → Checked

@@ -3,7 +3,6 @@ use Prim.Native.Nat.{ℕ}
 use mathlib.Core.Bool.{Bool, false, _&&_, _||_, not, cond}
 use mathlib.Core.List.{List, []}
 use lib.Dec.{eqb, ltb}
-use lib.ListN.{getD}
 use Rattle.records.specs.declared.frame.MmsFrame.{MmsFrame}
 use Rattle.records.specs.declared.result.InspectResult.{InspectResult}
 use Rattle.records.specs.declared.search.Found.{Found}
@@ -12,7 +11,7 @@ use Rattle.records.specs.Alert.{sourceMms}
 use Rattle.records.specs.Name.{nameOf}
 use Rattle.records.specs.Service.{serviceNumber, isWrite}
 use Rattle.checks.specs.Keys.{reservationKey}
-use Rattle.checks.specs.MmsRule.{hasBit, firstRule, ruleReadOnly, ruleRate}
+use Rattle.checks.specs.MmsRule.{hasBit, mmsRuleCount, firstRule, ruleReadOnly, ruleRate}
 use Rattle.monitor.specs.Monitor.{Monitor}
 use Rattle.monitor.specs.Parts.{After, rateOn, reservedOn, releasedOn}
 use Rattle.monitor.specs.Settings.{strictMode, mmsServiceMask, mmsReadOnly}
@@ -86,7 +85,7 @@ module _ (f : MmsRead) where
 -- 6. the applying rule is read-only and a write comes: High 2; otherwise its rate. 8. strict, rules exist, none applies: Medium 16
 abbrev pub mmsApplying : Bool → List ℕ → Bool → Found → RuleCheck
 mmsApplying strict rules write (At i) = cond (ruleReadOnly rules i && write) (Refused WriteRefused) (Rate (ruleRate rules i))
-mmsApplying strict rules write Nothing = cond (strict && ltb 0 (getD rules 48 0)) (Refused NoRule) (Rate 0)
+mmsApplying strict rules write Nothing = cond (strict && ltb 0 (mmsRuleCount rules)) (Refused NoRule) (Rate 0)
 
 -- whether a mask refuses a raw number: it is nonzero, and the number is 16 or above or its bit is not in it
 unfoldable pub masked : ℕ → ℕ → Bool

@@ -3,7 +3,6 @@ use Prim.Native.Nat.{ℕ}
 use mathlib.Core.Bool.{Bool, false, _&&_, not, cond}
 use mathlib.Core.List.{List, [], _++_}
 use lib.Dec.{eqb, ltb}
-use lib.ListN.{getD}
 use Rattle.records.specs.declared.frame.SvFrame.{SvFrame}
 use Rattle.records.specs.declared.result.InspectResult.{InspectResult}
 use Rattle.records.specs.Alert.{sourceSv}
@@ -17,7 +16,7 @@ use Rattle.checks.specs.declared.sv_publisher.PublisherMatch.the-variants.{NotR
 use Rattle.checks.specs.declared.sv_seq.SvSeqOutcome.{SvSeqOutcome}
 use Rattle.checks.specs.declared.sv_seq.SvSeqOutcome.the-variants.{FirstSeen, Replay, ForwardGap, CycleWrap, SuspiciousSmpGap}
 use Rattle.checks.specs.Keys.{plainKey, reservationKey}
-use Rattle.checks.specs.SvPublisher.{svPublisher, publisherRate}
+use Rattle.checks.specs.SvPublisher.{svPublisherCount, svPublisher, publisherRate}
 use Rattle.monitor.specs.Monitor.{Monitor}
 use Rattle.monitor.specs.Parts.{After, svSeqOn, timeFieldOn, cbOn}
 use Rattle.monitor.specs.Settings.{strictMode, timeMaxForwardJump, svMaxSmpCntGap}
@@ -97,7 +96,7 @@ svReservation f rate m = unlessHijacked (svTimeField (f .svid) (f .numbers) rate
 -- rate of the last rule that fits, none for an svID not among them
 abbrev pub svMatched : Bool → List ℕ → PublisherMatch → RuleCheck
 svMatched strict publishers WrongAddress = Refused WrongIed
-svMatched strict publishers NotRegistered = cond (strict && ltb 0 (getD publishers 192 0)) (Refused UnknownSvid) (Rate 0)
+svMatched strict publishers NotRegistered = cond (strict && ltb 0 (svPublisherCount publishers)) (Refused UnknownSvid) (Rate 0)
 svMatched strict publishers (Fits i) = Rate (publisherRate publishers i)
 
 unfoldable pub svRule : Monitor → ℕ → List ℕ → RuleCheck

@@ -5,6 +5,7 @@ use mathlib.Core.Path.{_≡_, sym, ap, _∙_}
 use native.Mathlib.Omega.{arith}
 use lib.ListN.{length, take, drop, take-append-drop, length-drop}
 use lib.Seq.{take-at, take-all, drop-at, drop-drop}
+use Rattle.monitor.proofs.PartLaws.{part-length}
 use Rattle.monitor.specs.Monitor.{Monitor, Sized, monitorOf, wordsOf}
 
 part-on : (l : List ℕ) (b n : ℕ) → take n (drop b l) ++ drop (b + n) l ≡ drop b l
@@ -69,4 +70,21 @@ monitor-words m z =
       «sv_seq» = part-is r0 (m .«sv_seq») r8 710 178 d7 (z .«sv_seq») i;
       «time_trackers» = part-is r0 (m .«time_trackers») r9 888 50 d8 (z .«time_trackers») i;
       «cb_reservations» = (ap (take 210) d9 ∙ take-all 210 (m .«cb_reservations») (omega (arith, z .«cb_reservations»))) i;
+    }
+
+-- the parts of 1148 words have their sizes
+pub words-sized : (l : List ℕ) → length l ≡ 1148 → Sized (monitorOf l)
+unfolding monitorOf
+words-sized l z =
+    record {
+      settings = part-length l 0 10 (omega arith);
+      totals = part-length l 10 5 (omega arith);
+      «mms_rules» = part-length l 15 49 (omega arith);
+      «goose_publishers» = part-length l 64 177 (omega arith);
+      «sv_publishers» = part-length l 241 193 (omega arith);
+      «rate_buckets» = part-length l 434 66 (omega arith);
+      «goose_seq» = part-length l 500 210 (omega arith);
+      «sv_seq» = part-length l 710 178 (omega arith);
+      «time_trackers» = part-length l 888 50 (omega arith);
+      «cb_reservations» = part-length l 938 210 (omega arith);
     }

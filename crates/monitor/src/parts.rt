@@ -1,13 +1,13 @@
 // The parts of the monitor in one array of 1148 words: of each check and add call `_lent` lends its part from a slice, over whose
 // words the laws are, and `_on` takes the array.
 ghost use mathlib.Core.Path.{_≡_};
-ghost use lib.ListN.{length, getD};
+ghost use lib.ListN.{length};
 ghost use Rattle.monitor.specs.Monitor.{monitorOf};
 ghost use Rattle.monitor.specs.Parts.{svSeqOn, gooseSeqOn, timeFieldOn, rateOn, cbOn, reservedOn, releasedOn, mmsAddedOn, gooseAddedOn, svAddedOn};
-ghost use Rattle.checks.specs.GoosePublisher.{goosePublisher};
+ghost use Rattle.checks.specs.GoosePublisher.{goosePublisherCount, goosePublisher};
 ghost use Rattle.checks.specs.GooseSeq.{retxChecked};
-ghost use Rattle.checks.specs.MmsRule.{firstRule, ruleReadOnly, ruleRate};
-ghost use Rattle.checks.specs.SvPublisher.{svPublisher, publisherRate};
+ghost use Rattle.checks.specs.MmsRule.{mmsRuleCount, firstRule, ruleReadOnly, ruleRate};
+ghost use Rattle.checks.specs.SvPublisher.{svPublisherCount, svPublisher, publisherRate};
 ghost use Rattle.tables.specs.Order.{allFree};
 use checks::goose_publisher::add_goose_publisher_in;
 use checks::goose_publisher::goose_publisher;
@@ -320,19 +320,19 @@ pub fn retx_anomaly_on(
 
 // How many MMS rules, GOOSE publishers and SV publishers there are.
 pub fn mms_rule_count_on(m: &[u64; WORDS]) -> u64
-    ensures { λ r. ⌜ r ≡ getD (monitorOf (now (m .entry)) .«mms_rules») 48 0 ⌝ }
+    ensures { λ r. ⌜ r ≡ mmsRuleCount (monitorOf (now (m .entry)) .«mms_rules») ⌝ }
 {
     m[MMS_RULE_COUNT]
 }
 
 pub fn goose_publisher_count_on(m: &[u64; WORDS]) -> u64
-    ensures { λ r. ⌜ r ≡ getD (monitorOf (now (m .entry)) .«goose_publishers») 176 0 ⌝ }
+    ensures { λ r. ⌜ r ≡ goosePublisherCount (monitorOf (now (m .entry)) .«goose_publishers») ⌝ }
 {
     m[GOOSE_PUBLISHER_COUNT]
 }
 
 pub fn sv_publisher_count_on(m: &[u64; WORDS]) -> u64
-    ensures { λ r. ⌜ r ≡ getD (monitorOf (now (m .entry)) .«sv_publishers») 192 0 ⌝ }
+    ensures { λ r. ⌜ r ≡ svPublisherCount (monitorOf (now (m .entry)) .«sv_publishers») ⌝ }
 {
     m[SV_PUBLISHER_COUNT]
 }

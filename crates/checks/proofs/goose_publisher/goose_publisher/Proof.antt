@@ -1,9 +1,8 @@
 -- `goose_publisher` meets its contract.
 use mathlib.Core.Path.{_≡_}
 use Prim.Native.Nat.{_-_}
-use lib.ListN.{getD}
 use Rattle.records.proofs.SearchLaws.{Reached, reached-first, reached-end, reached-hit, reached-next}
-use Rattle.checks.specs.GoosePublisher.{gooseFitsAt, goosePublisher}
+use Rattle.checks.specs.GoosePublisher.{goosePublisherCount, gooseFitsAt, goosePublisher}
 use Rattle.checks.specs.Rules.{ruleCount}
 use native.Mathlib.Omega.{arith}
 use borrow.Author.Needs.{needs}
@@ -11,7 +10,7 @@ use Rattle.checks.proofs.goose_publisher.goose_publisher.Statement.{sta
 use Rattle.checks.proofs.goose_publisher.goose_publisher.Tie as tie
 
 abbrev Inv-loop : tie.InvT-loop
-Inv-loop t address name n i₀ i = (n ≡ ruleCount (getD t 176 0)) × Reached (gooseFitsAt t address name) n i
+Inv-loop t address name n i₀ i = (n ≡ ruleCount (goosePublisherCount t)) × Reached (gooseFitsAt t address name) n i
 
 abbrev μ-loop : tie.MeasureT-loop
 μ-loop t address name n i₀ i = n - i

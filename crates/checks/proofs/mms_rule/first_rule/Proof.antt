@@ -3,7 +3,7 @@ use mathlib.Core.Path.{_≡_}
 use Prim.Native.Nat.{_-_}
 use lib.ListN.{getD}
 use Rattle.records.proofs.SearchLaws.{Reached, reached-first, reached-end, reached-hit, reached-next}
-use Rattle.checks.specs.MmsRule.{applies, firstRule}
+use Rattle.checks.specs.MmsRule.{mmsRuleCount, applies, firstRule}
 use Rattle.checks.specs.Rules.{ruleCount}
 use native.Mathlib.Omega.{arith}
 use borrow.Author.Needs.{needs}
@@ -11,7 +11,7 @@ use Rattle.checks.proofs.mms_rule.first_rule.Statement.{statement}
 use Rattle.checks.proofs.mms_rule.first_rule.Tie as tie
 
 abbrev Inv-loop : tie.InvT-loop
-Inv-loop t raw n i₀ i = (n ≡ ruleCount (getD t 48 0)) × Reached (λ j. applies (getD t j 0) raw) n i
+Inv-loop t raw n i₀ i = (n ≡ ruleCount (mmsRuleCount t)) × Reached (λ j. applies (getD t j 0) raw) n i
 
 abbrev μ-loop : tie.MeasureT-loop
 μ-loop t raw n i₀ i = n - i

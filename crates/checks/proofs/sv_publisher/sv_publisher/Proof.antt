@@ -3,10 +3,9 @@ use mathlib.Core.Path.{_≡_, _∙_}
 use mathlib.Core.Logic.{⊎-elim}
 use Prim.Native.Nat.{_≤_, _-_}
 use borrow.Author.Tests.{eq-eqb, ne-eqb}
-use lib.ListN.{getD}
 use Rattle.tables.specs.Named.{hasKey}
 use Rattle.checks.proofs.RuleLaws.{Compared, compared-none, compared-fits, compared-wrong, compared-other, compared-all}
-use Rattle.checks.specs.SvPublisher.{hasAddress, svPublisher}
+use Rattle.checks.specs.SvPublisher.{svPublisherCount, hasAddress, svPublisher}
 use Rattle.checks.specs.Rules.{ruleCount}
 use native.Mathlib.Omega.{arith}
 use borrow.Author.Needs.{needs}
@@ -15,7 +14,7 @@ use Rattle.checks.proofs.sv_publisher.sv_publisher.Tie as tie
 
 abbrev Inv-loop : tie.InvT-loop
 Inv-loop t address svid n is-registered₀ place₀ i₀ is-registered place i =
-    (i ≤ n) × (n ≡ ruleCount (getD t 192 0)) × Compared (λ j. hasKey 16 t svid j) (λ j. hasAddress t address j) i is-registered place
+    (i ≤ n) × (n ≡ ruleCount (svPublisherCount t)) × Compared (λ j. hasKey 16 t svid j) (λ j. hasAddress t address j) i is-registered place
 
 abbrev μ-loop : tie.MeasureT-loop
 μ-loop t address svid n is-registered₀ place₀ i₀ is-registered place i = n - i
