@@ -331,7 +331,7 @@ pub fn noted_on(m: &mut [u64; WORDS], alerts: CheckAlerts) -> [u8; 8]
     noted.verdict
 }
 
-// The same. Most frames have no alert, and get their verdict at once.
+// The same. Most frames have no alert, and get their verdict at once: a constant, since the other has a place of its own.
 pub fn verdict_on(m: &mut [u64; WORDS], alerts: CheckAlerts) -> [u8; 8]
     ensures { λ r. ⌜ ((source sourceNumber time : ℕ) → record { monitor = monitorOf (now (m .exit)); answer = r }
         ≡ withVerdict (reported source sourceNumber time (ended (monitorOf (now (m .entry))) (alertsOf alerts)))) ⌝ }
@@ -339,5 +339,6 @@ pub fn verdict_on(m: &mut [u64; WORDS], alerts: CheckAlerts) -> [u8; 8]
     if none_found(alerts) {
         return CLEAN_VERDICT;
     }
-    noted_on(m, alerts)
+    let verdict = noted_on(m, alerts);
+    verdict
 }
