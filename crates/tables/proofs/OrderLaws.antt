@@ -186,6 +186,37 @@ raised-rank : (old r : ℕ) → old < 128 → r < 128 → raised old r < 128
 raised-rank old r o h =
     by-cases (decLt r old) (λ l. rw (lt-ltb r old l) (omega arith)) (λ l. rw (le-ltb r old (omega arith)) h)
 
+-- a slot's rank in its word
+pub own-rank : (t : List ℕ) (s h : ℕ) {word : ℕ} → word ≡ getD t h 0 → eqb (s / 8) h ≡ true → rankIn word (s % 8) ≡ rankOf t s
+unfolding rankOf
+own-rank t s h w e = ap (λ (x : ℕ). rankIn x (s % 8)) (w ∙ ap (λ (k : ℕ). getD t k 0) (sym (eqb-true (s / 8) h e)))
+
+-- a slot by its word and its place there
+own-place : (s h j i : ℕ) → j < 8 → i ≡ h * 8 + j → eqb (s / 8) h && eqb j (s % 8) ≡ eqb i s
+own-place s h j i l e =
+    by-cases (ℕ-discrete i s)
+    (λ q. and-yes (eq-eqb (s / 8) h (omega arith)) (eq-eqb j (s % 8) (omega arith)) ∙ sym (eq-eqb i s q))
+    (λ q. by-cases (ℕ-discrete (s / 8) h)
+    (λ a. and-yes (eq-eqb (s / 8) h a) (ne-eqb j (s % 8) (λ b. q (omega arith))))
+    (λ a. and-no _ (ne-eqb (s / 8) h a)) ∙ sym (ne-eqb i s q))
+
+-- a word with its ranks raised, and the rank of the slot that is used, if it is the word's, made 0
+module _ (old word place w : ℕ) (o : old < 128) (h : place < 8) (e : w ≡ packed (λ j. raised old (rankIn word j)) 8) where
+  raised-octet : (j : ℕ) → j < 8 → octetOf w j ≡ raised old (rankIn word j)
+  raised-octet j l =
+      ap (λ (x : ℕ). octetOf x j) e
+      ∙ packed-octet (λ k. raised old (rankIn word k)) 8 j (λ k m. omega (arith, raised-rank old (rankIn word k) o (omega arith))) l
+
+  pub own-raised : rankIn word place ≡ old → octetOf w place ≡ old
+  own-raised r = raised-octet place h ∙ ap (raised old) r ∙ raised-self old
+
+  pub used-own : {own : Bool} {out : ℕ} → own ≡ true → out ≡ packed (beside (octetOf w) place 0) 8
+      → out ≡ packed (λ j. cond (own && eqb j place) 0 (raised old (rankIn word j))) 8
+  used-own t q = q ∙ rw t (packed-same _ _ 8 (λ j l. ap (λ (r : ℕ). cond (eqb j place) 0 r) (raised-octet j l)))
+
+  pub used-other : {own : Bool} → own ≡ false → w ≡ packed (λ j. cond (own && eqb j place) 0 (raised old (rankIn word j))) 8
+  used-other t = rw t e
+
 module _ (t : List ℕ) (s : ℕ) where
   pub use-outside : 16 ≤ s → t ≡ usedSlot t s
   unfolding usedSlot
@@ -217,20 +248,22 @@ module _ (t : List ℕ) (s : ℕ) where
           same e (yes q) = rw q (e ∙ sym (cond-yes _ _ (eq-eqb s s refl)))
           same e (no q) = sym (cond-no _ _ (ne-eqb i s q) ∙ cond-no _ _ (le-ltb (rankOf t i) (rankOf t s) (omega arith)))
 
-      module _ {old first second : ℕ} (o : old ≡ rankOf t s) (p : first ≡ packed (λ j. raised old (rankIn (getD t 0 0) j)) 8)
-          (q : second ≡ packed (λ j. raised old (rankIn (getD (set t 0 first) 1 0) j)) 8) where
-        raised-each : (r : ℕ) → r < 128 → raised old r < 128
-        raised-each r l = raised-rank old r (omega (arith, rank-below t s)) l
-
-        pub use-octet : octetOf (getD (set (set t 0 first) 1 second) (s / 8) 0) (s % 8) ≡ old
-        use-octet = own-octet t z (raised old) raised-each s h p q ∙ ap (raised old) (sym o) ∙ raised-self old
-
-        pub use-done : (old ≡ 0 → ⊥) → {word : ℕ} → word ≡ packed (beside (octetOf (getD (set (set t 0 first) 1 second) (s / 8) 0)) (s % 8) 0) 8
-            → set (set (set t 0 first) 1 second) (s / 8) word ≡ usedSlot t s
-        use-done n e =
-            own-replaced t z (raised old) raised-each s h p q 0 e
-            ∙ ap (λ (x : ℕ). reranked t (beside (λ i. raised x (rankOf t i)) s 0)) o
-            ∙ sym (used-is (λ e. n (o ∙ e)))
+      -- both words after a use
+      pub use-done : {old first second : ℕ} → old ≡ rankOf t s → (old ≡ 0 → ⊥)
+          → first ≡ packed (λ j. cond (eqb (s / 8) 0 && eqb j (s % 8)) 0 (raised old (rankIn (getD t 0 0) j))) 8
+          → second ≡ packed (λ j. cond (eqb (s / 8) 1 && eqb j (s % 8)) 0 (raised old (rankIn (getD (set t 0 first) 1 0) j))) 8
+          → set (set t 0 first) 1 second ≡ usedSlot t s
+      unfolding reranked
+      use-done {old} {first} {second} o n p q =
+          let a : first ≡ packed (usedRank (rankOf t) s) 8 = p ∙ packed-same _ _ 8 (λ j l. used-at 0 j j l (omega arith) o refl) in
+          let c : second ≡ packed (λ j. usedRank (rankOf t) s (8 + j)) 8 =
+          q ∙ packed-same _ _ 8 (λ j l. used-at 1 j (8 + j) l (omega arith) o (getD-set-other t 0 1 first 0 (λ e. omega arith))) in
+          (λ i. set (set t 0 (a i)) 1 (c i)) ∙ sym (used-is (λ e. n (o ∙ e)))
+        where
+          used-at : (h j i : ℕ) → j < 8 → i ≡ h * 8 + j → {old word : ℕ} → old ≡ rankOf t s → word ≡ getD t h 0
+              → cond (eqb (s / 8) h && eqb j (s % 8)) 0 (raised old (rankIn word j)) ≡ usedRank (rankOf t) s i
+          used-at h j i l e o w =
+              rw (o, w, own-place s h j i l e) (ap (λ (r : ℕ). cond (eqb i s) 0 (raised (rankOf t s) r)) (sym (rank-word t h j i l e)))
 
 -- ---- an entry forgotten
 

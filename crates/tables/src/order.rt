@@ -1,7 +1,9 @@
 // The order of use of a table's slots, after the ageing of industrial/iec61850-monitor/src/lib.rs of craton-shield a31d888527 (Apache-2.0), changed:
 // a rank for each slot in place of ticks. A table is a slice of words; the first two have the ranks, an octet for each slot, the first the least.
+ghost use mathlib.Core.Bool.{true, cond, _&&_};
 ghost use mathlib.Core.Path.{_≡_};
 ghost use Prim.Native.Nat.{_≤_, _<_};
+ghost use lib.Dec.{eqb};
 ghost use lib.ListN.{length};
 ghost use Rattle.tables.specs.Order.{rankIn, rankOf, freeSlot, newSlot, raised, lowered, rankSet, usedSlot, forgottenSlot};
 ghost use Rattle.tables.specs.Order.{noEntries, allFree};
@@ -120,6 +122,19 @@ fn raised_word(old: u64, word: u64) -> u64
     low + (HIGH - not_below) / 128
 }
 
+// The same, and 0 at the place of the slot that is used, if it is one of the word's. Each word is stored once: a store into a part of it would hold up the
+// next use.
+fn used_word(old: u64, word: u64, own: bool, place: usize) -> u64
+    requires { ⌜ (1 ≤ old) × (old < 128) × (place < 8) × (own ≡ true → rankIn word place ≡ old) ⌝ }
+    ensures { λ r. ⌜ r ≡ packed (λ j. cond (own && eqb j place) 0 (raised old (rankIn word j))) 8 ⌝ }
+{
+    let raised = raised_word(old, word);
+    if own {
+        return with_octet(raised, place, old, 0);
+    }
+    raised
+}
+
 // Marks a use of a slot; a slot of 16 or more changes nothing. The slot that was used last is told at once: it is the commonest.
 pub fn use_slot(t: &mut [u64], slot: usize)
     requires { ⌜ 2 ≤ length (now t) ⌝ }
@@ -132,9 +147,8 @@ pub fn use_slot(t: &mut [u64], slot: usize)
     if old == 0 {
         return;
     }
-    t[0] = raised_word(old, t[0]);
-    t[1] = raised_word(old, t[1]);
-    t[slot / 8] = with_octet(t[slot / 8], slot % 8, old, 0);
+    t[0] = used_word(old, t[0], slot / 8 == 0, slot % 8);
+    t[1] = used_word(old, t[1], slot / 8 == 1, slot % 8);
 }
 
 // A rank after a slot of rank `old` is forgotten.
