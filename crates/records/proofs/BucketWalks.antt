@@ -11,7 +11,8 @@ use base.Fml.{Fml, Share, ftrue, fat}
 use prog.Wp.{Heap, Env, spotOf}
 use ghost.Atoms.{Atoms, sem}
 use contract.Monad.{fact}
-use types.Kit.{Goal, Given, Item, Seq, Step, ‵, raw, _⊛_, some, later, _$_, _∵_, !, qed, move, keep, split, pick, rewrite, await, updating, now as at-once, nth, done}
+use types.Kit.{Goal, Given, Item, Seq, Step, ‵, raw, _⊛_, some, later, _$_, _∵_, !, qed, move, keep, split, pick, rewrite, await, updating, now as at-once}
+use types.Kit.{nth, done}
 use types.Run.{Opd, look, stop, from, load}
 use denote.RattleType.{RattleType}
 use denote.Laws.{Is, Typed, shows}
@@ -42,7 +43,8 @@ module _ {M : Type 1} (𝓤 : URA M) (H : Heap 𝓤) (A : Atoms 𝓤) (W : Given
   pub answers :
       (R : RattleType) (d : R .Denot) (v : Val) {X : Type 0} (L : X → Fml)
       → ent 𝓤
-      (H .⇛ (ex 𝓤 (λ (r : R .Denot). sep 𝓤 (sep 𝓤 (sem 𝓤 H A ftrue) (sem 𝓤 H A (R .own r (v ∷ [])))) (ex 𝓤 (λ (ws : X). sep 𝓤 (sem 𝓤 H A (L ws)) (fact 𝓤 (r ≡ d)))))))
+      (H .⇛ (ex 𝓤 (λ (r : R .Denot). sep 𝓤 (sep 𝓤 (sem 𝓤 H A ftrue) (sem 𝓤 H A (R .own r (v ∷ []))))
+      (ex 𝓤 (λ (ws : X). sep 𝓤 (sem 𝓤 H A (L ws)) (fact 𝓤 (r ≡ d)))))))
       (H .⇛ (sem 𝓤 H A (R .own d (v ∷ []))))
   answers R d v {X} L =
       qed W (later (some (λ (r : R .Denot). (‵ ftrue ⊛ ‵ (R .own r (v ∷ []))) ⊛ some (λ (ws : X). ‵ (L ws) ⊛ raw (fact 𝓤 (r ≡ d))))) ∷ []) ∵

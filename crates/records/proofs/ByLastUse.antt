@@ -5,7 +5,8 @@ use mathlib.Core.Path.{_≡_, refl}
 use native.Mathlib.Decide.{ℕ-discrete}
 use lib.ListN.{take}
 use lib.Seq.{take-nil}
-use Rattle.records.proofs.KeyedLists.{Distinct, absent-without, pairwise-without, pairwise-take, take-front, distinct-distinct, lookup-take, lookup-distinct, since-distinct}
+use Rattle.records.proofs.KeyedLists.{Distinct, absent-without, pairwise-without, pairwise-take, take-front, distinct-distinct, lookup-take}
+use Rattle.records.proofs.KeyedLists.{lookup-distinct, since-distinct}
 use Rattle.records.specs.Remembered.{lookup, without, distinct, after, numbers, remembered}
 
 module _ {K W I : Type 0} (dec : Discrete K) (n : ℕ) (fresh : I → W) (step : W → I → W) where

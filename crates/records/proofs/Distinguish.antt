@@ -10,7 +10,8 @@ use native.Mathlib.Omega.{arith}
 use lib.ListN.{length, take, length-append, length-take}
 use lib.Seq.{take-take, take-all}
 use Rattle.records.proofs.ByLastUse.{touch, touch-distinct, by-last-use}
-use Rattle.records.proofs.KeyedLists.{All, Distinct, all-take, all-append, all-without, without-absent, absent-none, absent-key, lookup-tails, difference}
+use Rattle.records.proofs.KeyedLists.{All, Distinct, all-take, all-append, all-without, without-absent, absent-none, absent-key, lookup-tails}
+use Rattle.records.proofs.KeyedLists.{difference}
 use Rattle.records.specs.Remembered.{lookup, after, remembered}
 
 -- the outputs of a machine, each of its input and of the state that the inputs before it left
@@ -98,7 +99,8 @@ module _ {K W I A : Type 0} {dec : Discrete K} {n : ℕ} {fresh : I → W} {step
       let a = all-append _ l l′ .0 (absent-none dec (x .0) (l ++ l′) (j .2)) in
       let w : suc m ≤ n = omega arith in
       let r = distinguished d (b - 1) (suc m) (valid-touch v x gx) (valid-touch v′ x gx) k g (omega arith) (omega arith)
-      (λ q. c (lookup-tails dec k m _ _ l l′ refl (a .0) (a .1) (simp (take-take, without-absent dec (x .0) l (a .0), without-absent dec (x .0) l′ (a .1)) at q))) in
+      (λ q. c (lookup-tails dec k m _ _ l l′ refl (a .0) (a .1)
+      (simp (take-take, without-absent dec (x .0) l (a .0), without-absent dec (x .0) l′ (a .1)) at q))) in
       record { fillers = x ∷ r .fillers; last = r .last; short = omega arith; legal = (gx, r .legal); legal-last = r .legal-last; differ = r .differ }
 
   unfoldable pub distinguish : {l l′ : List (K × W)} → Valid l → Valid l′ → l ≢ l′ → Distinguished n l l′
@@ -128,8 +130,10 @@ module _ {K W I A : Type 0} {dec : Discrete K} {n : ℕ} {fresh : I → W} {step
         valid h g = rw (← by-last-use dec n fresh step h) (valid-history (record { distinct = tt; short = omega arith; legal = tt }) h g)
 
     -- two histories leave equal lists remembered exactly when all further frames get equal answers
-    pub equal-answers : (left h ≡ left h′) ↔ ((f : List (K × I)) → All Legal f → answers dec n fresh step ans (left h) f ≡ answers dec n fresh step ans (left h′) f)
+    pub equal-answers : (left h ≡ left h′)
+        ↔ ((f : List (K × I)) → All Legal f → answers dec n fresh step ans (left h) f ≡ answers dec n fresh step ans (left h′) f)
     equal-answers = (
       λ q f a. rw q,
-      λ same. Dec·not-not (List-discrete (×-discrete dec (O .decW)) (left h) (left h′)) .0 (λ c. let r = unequal-answers (distinguish-histories c) in r .3 (same (r .0) (r .1))),
+      λ same. Dec·not-not (List-discrete (×-discrete dec (O .decW)) (left h) (left h′)) .0
+          (λ c. let r = unequal-answers (distinguish-histories c) in r .3 (same (r .0) (r .1))),
     )

@@ -118,10 +118,12 @@ module _ {K A : Type 0} (dec : Discrete K) where
   -- taking out a key that is there leaves a shorter list, whether or not the keys are distinct
   pub without-shorter : (k : K) (l : List (K × A)) → present (lookup dec k l) + length (without dec k l) ≤ length l
   without-shorter k [] = omega arith
-  without-shorter k (e ∷ l) = by-cases (dec k (e .0)) (λ p. simp if-pos (omega (arith, without-shorter k l))) (λ p. simp if-neg (omega (arith, without-shorter k l)))
+  without-shorter k (e ∷ l) =
+      by-cases (dec k (e .0)) (λ p. simp if-pos (omega (arith, without-shorter k l))) (λ p. simp if-neg (omega (arith, without-shorter k l)))
 
   -- of more distinct keys than the list has entries, one is absent from it
-  unfoldable pub absent-key : (f : ℕ → K) → ((i j : ℕ) → f i ≡ f j → i ≡ j) → (m : ℕ) (l : List (K × A)) → length l < m → (i : ℕ) × (i < m) × (lookup dec (f i) l ≡ none)
+  unfoldable pub absent-key : (f : ℕ → K) → ((i j : ℕ) → f i ≡ f j → i ≡ j) → (m : ℕ) (l : List (K × A)) → length l < m
+      → (i : ℕ) × (i < m) × (lookup dec (f i) l ≡ none)
   absent-key f inj zero l h = absurd (omega arith)
   absent-key f inj (suc m) l h = go (lookup dec (f m) l) refl (absent-key f inj m (without dec (f m) l))
     where
@@ -211,7 +213,8 @@ module _ {J K A B : Type 0} (decJ : Discrete J) (decK : Discrete K) (f : J → K
   entries-without (e ∷ l) q c d =
       by-cases (decJ j (e .0))
       (λ p. rw p (without-head decK (f (e .0)) (entriesOf f l) d ∙ ap (entriesOf f) (sym (without-head decJ e l c))))
-      (λ p. let m : f j .0 ≢ f (e .0) .0 = λ z. all-entries _ l (rw if-neg at q) (d .0) (sym z) in simp (if-neg, entries-without l (rw if-neg at q) (c .1) (d .1)))
+      (λ p. let m : f j .0 ≢ f (e .0) .0 = λ z. all-entries _ l (rw if-neg at q) (d .0) (sym z) in
+      simp (if-neg, entries-without l (rw if-neg at q) (c .1) (d .1)))
 
 -- a list of distinct numbers below n is no longer than n, and one of all numbers below n is no shorter
 module _ {A : Type 0} where
@@ -220,13 +223,15 @@ module _ {A : Type 0} where
   length-at-most zero (e ∷ l) d f = absurd (absent-none ℕ-discrete (e .0) (e ∷ l) (f (e .0) (omega arith)) .0 refl)
   length-at-most (suc n) l d f =
       let m = length-at-most n (without ℕ-discrete n l) (pairwise-without ℕ-discrete _ n l d) (λ i h.
-      by-cases (ℕ-discrete i n) (λ p. rw p (lookup-absent ℕ-discrete n (without ℕ-discrete n l) (absent-without ℕ-discrete n l))) (λ p. lookup-without ℕ-discrete i n l p ∙ f i (omega arith))) in
+      by-cases (ℕ-discrete i n) (λ p. rw p (lookup-absent ℕ-discrete n (without ℕ-discrete n l) (absent-without ℕ-discrete n l)))
+      (λ p. lookup-without ℕ-discrete i n l p ∙ f i (omega arith))) in
       omega (arith, length-without ℕ-discrete n l d, present-le (lookup ℕ-discrete n l))
 
   pub length-at-least : (n : ℕ) (l : List (ℕ × A)) → Distinct l → ((i : ℕ) → i < n → present (lookup ℕ-discrete i l) ≡ 1) → n ≤ length l
   length-at-least zero l d f = omega arith
   length-at-least (suc n) l d f =
-      let m = length-at-least n (without ℕ-discrete n l) (pairwise-without ℕ-discrete _ n l d) (λ i h. rw (lookup-without ℕ-discrete i n l (omega arith)) (f i (omega arith))) in
+      let m = length-at-least n (without ℕ-discrete n l) (pairwise-without ℕ-discrete _ n l d)
+      (λ i h. rw (lookup-without ℕ-discrete i n l (omega arith)) (f i (omega arith))) in
       omega (arith, length-without ℕ-discrete n l d, f n (omega arith))
 
 module _ {K A : Type 0} (dec : Discrete K) where
@@ -247,10 +252,13 @@ module _ {K A : Type 0} (dec : Discrete K) where
     pub differ : lookup dec (entry .0) (take (suc place) l) ≢ lookup dec (entry .0) (take (suc place) l′)
 
   -- the first such place
-  unfoldable pub difference : Discrete A → (P : K × A → Type 0) (l l′ : List (K × A)) → All P l → All P l′ → Distinct l → Distinct l′ → l ≢ l′ → Difference P l l′
+  unfoldable pub difference : Discrete A → (P : K × A → Type 0) (l l′ : List (K × A)) → All P l → All P l′ → Distinct l → Distinct l′ → l ≢ l′
+      → Difference P l l′
   difference decA P [] [] a a′ d d′ n = absurd (n refl)
-  difference decA P [] (y ∷ ys) a a′ d d′ n = record { place = 0; within = omega arith; entry = y; holds = a′ .0; differ = λ q. Option·none-ne-some _ (simp if-pos at q) }
-  difference decA P (x ∷ xs) [] a a′ d d′ n = record { place = 0; within = omega arith; entry = x; holds = a .0; differ = λ q. Option·some-ne-none _ (simp if-pos at q) }
+  difference decA P [] (y ∷ ys) a a′ d d′ n =
+      record { place = 0; within = omega arith; entry = y; holds = a′ .0; differ = λ q. Option·none-ne-some _ (simp if-pos at q) }
+  difference decA P (x ∷ xs) [] a a′ d d′ n =
+      record { place = 0; within = omega arith; entry = x; holds = a .0; differ = λ q. Option·some-ne-none _ (simp if-pos at q) }
   difference decA P (x ∷ xs) (y ∷ ys) a a′ d d′ n = go (decidePair dec decA x y) (difference decA P xs ys (a .1) (a′ .1) (d .1) (d′ .1))
     where
       go : Dec (x ≡ y) → (xs ≢ ys → Difference P xs ys) → Difference P (x ∷ xs) (y ∷ ys)

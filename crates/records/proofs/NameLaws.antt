@@ -52,7 +52,8 @@ module _ (l : List ℕ) (f : ℕ → ℕ) where
   overwritten-past start n zero h w = let e : n ≡ 0 = omega arith in rw e
   overwritten-past start n (suc m) h w = go (ℕ-discrete n (suc m)) (overwritten-past start n m h)
     where
-      go : Dec (n ≡ suc m) → (n ≤ m → overwritten l start f m ≡ overwritten l start f n) → set (overwritten l start f m) (start + m) (f m) ≡ overwritten l start f n
+      go : Dec (n ≡ suc m) → (n ≤ m → overwritten l start f m ≡ overwritten l start f n)
+          → set (overwritten l start f m) (start + m) (f m) ≡ overwritten l start f n
       go (yes e) ih = rw e
       go (no e) ih = set-out (overwritten l start f m) (start + m) (f m) (omega (arith, length-overwritten start m)) ∙ ih (omega arith)
 

@@ -22,7 +22,10 @@ pub read-back :
 read-back number case back a b e = sym (back a) ∙ ap case e ∙ back b
 
 errors : List VsError
-errors = error.CryptoError ∷ error.BusError ∷ error.PolicyViolation ∷ error.IntegrityFailure ∷ error.AuthenticationFailure ∷ error.Timeout ∷ error.ResourceExhausted ∷ error.NotInitialized ∷ error.StorageError ∷ error.InvalidInput ∷ error.InvalidConfig ∷ error.NotFound ∷ error.OverlappingRegion ∷ error.KeyExpired ∷ error.KeyRevoked ∷ []
+errors =
+    error.CryptoError ∷ error.BusError ∷ error.PolicyViolation ∷ error.IntegrityFailure ∷ error.AuthenticationFailure ∷ error.Timeout
+    ∷ error.ResourceExhausted ∷ error.NotInitialized ∷ error.StorageError ∷ error.InvalidInput ∷ error.InvalidConfig ∷ error.NotFound
+    ∷ error.OverlappingRegion ∷ error.KeyExpired ∷ error.KeyRevoked ∷ []
 
 error-back : (a : VsError) → getD errors (errorNumber a) error.CryptoError ≡ a
 unfolding errors
@@ -60,7 +63,14 @@ pub severity-injective : (a b : AlertSeverity) → severityNumber a ≡ severity
 severity-injective = read-back severityNumber (λ n. getD severities n severity.Info) severity-back
 
 codes : List AlertCode
-codes = code.Unspecified ∷ code.CrcFailure ∷ code.WriteProtection ∷ code.ReplayDetected ∷ code.RateExceeded ∷ code.FloodAbuse ∷ code.PolicyViolation ∷ code.UnknownFunctionCode ∷ code.DiagnosticBlocked ∷ code.EndpointBlocked ∷ code.SecurityModeViolation ∷ code.SessionAnomaly ∷ code.AlarmFlood ∷ code.SequenceAnomaly ∷ code.PayloadOverflow ∷ code.InvalidProtocol ∷ code.NoMatchingRule ∷ code.MessageTypeBlocked ∷ code.ProviderStateChange ∷ code.DcpBlocked ∷ code.MessageSizeExceeded ∷ code.AddressViolation ∷ code.UnknownSession ∷ code.ResourceExhausted ∷ code.ObjectAccessDenied ∷ code.CipServiceBlocked ∷ code.SvReplay ∷ code.SvRateAnomaly ∷ code.IedMismatch ∷ code.CbHijack ∷ code.RetransmissionAnomaly ∷ code.TimeSyncSpoofing ∷ code.ClockRegression ∷ code.UnitNotAllowed ∷ code.InvalidUnitId ∷ code.TxIdReplay ∷ code.BadLinkCrc ∷ code.TransportSeqAnomaly ∷ code.SaDowngrade ∷ code.IinFlagSpoofing ∷ code.ForeignDevice ∷ code.NpduLoop ∷ code.BroadcastFlood ∷ []
+codes =
+    code.Unspecified ∷ code.CrcFailure ∷ code.WriteProtection ∷ code.ReplayDetected ∷ code.RateExceeded ∷ code.FloodAbuse ∷ code.PolicyViolation
+    ∷ code.UnknownFunctionCode ∷ code.DiagnosticBlocked ∷ code.EndpointBlocked ∷ code.SecurityModeViolation ∷ code.SessionAnomaly ∷ code.AlarmFlood
+    ∷ code.SequenceAnomaly ∷ code.PayloadOverflow ∷ code.InvalidProtocol ∷ code.NoMatchingRule ∷ code.MessageTypeBlocked ∷ code.ProviderStateChange
+    ∷ code.DcpBlocked ∷ code.MessageSizeExceeded ∷ code.AddressViolation ∷ code.UnknownSession ∷ code.ResourceExhausted ∷ code.ObjectAccessDenied
+    ∷ code.CipServiceBlocked ∷ code.SvReplay ∷ code.SvRateAnomaly ∷ code.IedMismatch ∷ code.CbHijack ∷ code.RetransmissionAnomaly
+    ∷ code.TimeSyncSpoofing ∷ code.ClockRegression ∷ code.UnitNotAllowed ∷ code.InvalidUnitId ∷ code.TxIdReplay ∷ code.BadLinkCrc
+    ∷ code.TransportSeqAnomaly ∷ code.SaDowngrade ∷ code.IinFlagSpoofing ∷ code.ForeignDevice ∷ code.NpduLoop ∷ code.BroadcastFlood ∷ []
 
 code-back : (a : AlertCode) → getD codes (codeNumber a) code.Unspecified ≡ a
 unfolding codes

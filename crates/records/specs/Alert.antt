@@ -6,7 +6,15 @@ use lib.ListN.{replicate}
 use Rattle.records.specs.declared.alert.AlertSeverity.{AlertSeverity}
 use Rattle.records.specs.declared.alert.AlertSeverity.the-variants.{Info, Low, Medium, High, Critical}
 use Rattle.records.specs.declared.alert.AlertCode.{AlertCode}
-use Rattle.records.specs.declared.alert.AlertCode.the-variants.{Unspecified, CrcFailure, WriteProtection, ReplayDetected, RateExceeded, FloodAbuse, PolicyViolation, UnknownFunctionCode, DiagnosticBlocked, EndpointBlocked, SecurityModeViolation, SessionAnomaly, AlarmFlood, SequenceAnomaly, PayloadOverflow, InvalidProtocol, NoMatchingRule, MessageTypeBlocked, ProviderStateChange, DcpBlocked, MessageSizeExceeded, AddressViolation, UnknownSession, ResourceExhausted, ObjectAccessDenied, CipServiceBlocked, SvReplay, SvRateAnomaly, IedMismatch, CbHijack, RetransmissionAnomaly, TimeSyncSpoofing, ClockRegression, UnitNotAllowed, InvalidUnitId, TxIdReplay, BadLinkCrc, TransportSeqAnomaly, SaDowngrade, IinFlagSpoofing, ForeignDevice, NpduLoop, BroadcastFlood}
+use Rattle.records.specs.declared.alert.AlertCode.the-variants.{Unspecified, CrcFailure, WriteProtection, ReplayDetected, RateExceeded, FloodAbuse}
+use Rattle.records.specs.declared.alert.AlertCode.the-variants.{PolicyViolation, UnknownFunctionCode, DiagnosticBlocked, EndpointBlocked}
+use Rattle.records.specs.declared.alert.AlertCode.the-variants.{SecurityModeViolation, SessionAnomaly, AlarmFlood, SequenceAnomaly, PayloadOverflow}
+use Rattle.records.specs.declared.alert.AlertCode.the-variants.{InvalidProtocol, NoMatchingRule, MessageTypeBlocked, ProviderStateChange, DcpBlocked}
+use Rattle.records.specs.declared.alert.AlertCode.the-variants.{MessageSizeExceeded, AddressViolation, UnknownSession, ResourceExhausted}
+use Rattle.records.specs.declared.alert.AlertCode.the-variants.{ObjectAccessDenied, CipServiceBlocked, SvReplay, SvRateAnomaly, IedMismatch, CbHijack}
+use Rattle.records.specs.declared.alert.AlertCode.the-variants.{RetransmissionAnomaly, TimeSyncSpoofing, ClockRegression, UnitNotAllowed, InvalidUnitId}
+use Rattle.records.specs.declared.alert.AlertCode.the-variants.{TxIdReplay, BadLinkCrc, TransportSeqAnomaly, SaDowngrade, IinFlagSpoofing}
+use Rattle.records.specs.declared.alert.AlertCode.the-variants.{ForeignDevice, NpduLoop, BroadcastFlood}
 use Rattle.records.specs.declared.alert.CodedAlert.{CodedAlert}
 
 -- the number of each severity

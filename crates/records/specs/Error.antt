@@ -1,7 +1,9 @@
 -- Errors (01, "Alert and result": errors 0 to 14).
 use Prim.Native.Nat.{ℕ}
 use Rattle.records.specs.declared.error.VsError.{VsError}
-use Rattle.records.specs.declared.error.VsError.the-variants.{CryptoError, BusError, PolicyViolation, IntegrityFailure, AuthenticationFailure, Timeout, ResourceExhausted, NotInitialized, StorageError, InvalidInput, InvalidConfig, NotFound, OverlappingRegion, KeyExpired, KeyRevoked}
+use Rattle.records.specs.declared.error.VsError.the-variants.{CryptoError, BusError, PolicyViolation, IntegrityFailure, AuthenticationFailure, Timeout}
+use Rattle.records.specs.declared.error.VsError.the-variants.{ResourceExhausted, NotInitialized, StorageError, InvalidInput, InvalidConfig, NotFound}
+use Rattle.records.specs.declared.error.VsError.the-variants.{OverlappingRegion, KeyExpired, KeyRevoked}
 
 -- the number of each error
 abbrev pub errorNumber : VsError → ℕ

@@ -5,7 +5,9 @@ use mathlib.Core.List.{List, [], _∷_}
 use lib.Dec.{eqb}
 use lib.ListN.{getD}
 use Rattle.records.specs.declared.service.MmsServiceType.{MmsServiceType}
-use Rattle.records.specs.declared.service.MmsServiceType.the-variants.{Read, Write, GetNameList, GetVariableAccessAttributes, DefineNamedVariable, DeleteNamedVariable, GetDataValues, SetDataValues, Initiate, Conclude, SelectControl, CancelControl, Unknown}
+use Rattle.records.specs.declared.service.MmsServiceType.the-variants.{Read, Write, GetNameList, GetVariableAccessAttributes, DefineNamedVariable}
+use Rattle.records.specs.declared.service.MmsServiceType.the-variants.{DeleteNamedVariable, GetDataValues, SetDataValues, Initiate, Conclude}
+use Rattle.records.specs.declared.service.MmsServiceType.the-variants.{SelectControl, CancelControl, Unknown}
 
 -- the number of each service
 abbrev pub serviceNumber : MmsServiceType → ℕ

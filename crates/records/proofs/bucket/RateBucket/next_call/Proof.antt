@@ -17,8 +17,10 @@ use prog.Wp.{Heap, WpFn, Tables}
 use ghost.Atoms.{Atoms, sem}
 use contract.Monad.{Fun, fact}
 use contract.Running.{givenOf, tables, tablesOf}
-use types.Kit.{Given, ‵, raw, _⊛_, some, later, _$_, _∵_, !, qed, by, move, keep, use1, use2, use3, split, join, pick, rewrite, fsplit, fjoin, fpick, fpack, suffices, frame, await, updating, now as at-once, done}
-use types.Run.{look, init, forget, stop, from, addr, of-opd, assigns, and-then, no-more, land, returns, enter, alloc1, alloc0, params1, pass1, pass0, free1, free0}
+use types.Kit.{Given, ‵, raw, _⊛_, some, later, _$_, _∵_, !, qed, by, move, keep, use1, use2, use3, split, join, pick, rewrite, fsplit, fjoin, fpick, fpack}
+use types.Kit.{suffices, frame, await, updating, now as at-once, done}
+use types.Run.{look, init, forget, stop, from, addr, of-opd, assigns, and-then, no-more, land, returns, enter, alloc1, alloc0, params1, pass1, pass0, free1}
+use types.Run.{free0}
 use types.Part.{agg}
 use types.SemTy.{Body}
 use types.Tokens.{lft-new, lft-end}
@@ -103,7 +105,8 @@ module _
     takes-back v =
         qed W (raw (TryConsume 𝓤 H A at-mem run .post called v) ∷ ‵ (flent (ν ∷ []) (Body (mem T.the-row) l 0 δ)) ∷ []) ∵ updating ! $
         use1 W (later (some (λ (r : Bool). ((‵ (flft (ν ∷ []) fullShare) ⊛ ‵ ftrue) ⊛ ‵ (bool .own r (v ∷ [])))
-        ⊛ some (λ (ws : RateBucket × (Unit {0} × Unit {0})). ‵ (lasts callee.ended (ν ∷ [], tt) lent ws) ⊛ raw (fact 𝓤 ((r ≡ allows h n) × (ws .0 ≡ h′))))))) (id⊢ 𝓤 _) $
+        ⊛ some (λ (ws : RateBucket × (Unit {0} × Unit {0})). ‵ (lasts callee.ended (ν ∷ [], tt) lent ws)
+        ⊛ raw (fact 𝓤 ((r ≡ allows h n) × (ws .0 ≡ h′))))))) (id⊢ 𝓤 _) $
         await ! tt $ pick ! (λ r. split ! $ move ! (1 ∷ []) $ pick ! (λ ws. split ! $ move ! (1 ∷ []) $ heard ! ((r ≡ allows h n) × (ws .0 ≡ h′)) (λ e.
         fsplit ! $ rewrite ! 0 (λ (b : RateBucket). ‵ (fres δ (T.the-row .coded .code b))) (e .1) refl $
         move ! (2 ∷ []) $ split ! $ split ! $ rewrite ! 2 (λ (a : Bool). ‵ (bool .own a (v ∷ []))) (e .0) refl $
@@ -121,12 +124,14 @@ module _
       use1 W (‵ (cellAt fullShare (T.the-row .mir) (vals h) l 0)) (W .laws .at-raw fullShare T′.mir l 0 (val h)) $
       fjoin ! $ fpack ! (List Val) (λ us. fsep (cellAt fullShare (T.the-row .mir) us l 0) (T.the-row .own h us)) (vals h) $
       lft-new ! tt (λ ν. move ! (1 ∷ []) $
-      use1 W (later (some (λ (δ : GName). ‵ (MutRef (named 0) (ν ∷ []) T.the-row .own (lent l ν δ .0) (vptr l 0 ∷ [])) ⊛ ‵ (flent (ν ∷ []) (Body (mem T.the-row) l 0 δ)))))
+      use1 W (later (some (λ (δ : GName). ‵ (MutRef (named 0) (ν ∷ []) T.the-row .own (lent l ν δ .0) (vptr l 0 ∷ []))
+      ⊛ ‵ (flent (ν ∷ []) (Body (mem T.the-row) l 0 δ)))))
       (lends-ref 𝓤 H A W T.the-row (named 0) (ν ∷ []) h l 0) $ await ! tt $ pick ! (λ δ. split ! $ at-once ! $
       suffices ! (Asked l ν δ) (via 𝓤 (ex 𝓤 (Asked l ν)) (exI 𝓤 (Asked l ν) δ) (exI 𝓤 (λ (ν′ : ℕ). ex 𝓤 (Asked l ν′)) ν)) $
       move ! (1 ∷ 2 ∷ 0 ∷ []) $ frame ! $
       -- [the token; the reference]
-      nothing ! $ move ! (1 ∷ 0 ∷ []) $ join ! $ nothing ! $ time-owned ! n fits $ join ! $ move ! (2 ∷ 0 ∷ []) $ join ! $ move ! (1 ∷ 0 ∷ []) $ join ! $ frame ! $ done !))
+      nothing ! $ move ! (1 ∷ 0 ∷ []) $ join ! $ nothing ! $ time-owned ! n fits $ join ! $ move ! (2 ∷ 0 ∷ []) $ join ! $ move ! (1 ∷ 0 ∷ []) $ join ! $
+      frame ! $ done !))
 
   abbrev Post : Val → SProp 𝓤
   Post = walkOf 𝓤 H A f.ended stayed (f.clauses 𝓤 H A at-mem run) .post ((tt, tt, tt, x, at), tt)
@@ -152,11 +157,15 @@ module _
         assigns ! (addr ! (from ! (stop !))) (from ! (stop !)) (init ! 2 refl (tt, tt)) $
         -- _3 is lent
         move ! (6 ∷ []) $
-        use1 W (later (some (λ (ν : ℕ). some (λ (δ : GName). ‵ (flent (ν ∷ []) (Body (mem T.the-row) l₃ 0 δ)) ⊛ raw (TryConsume 𝓤 H A at-mem run .pre (called l₃ ν δ))))))
+        use1 W (later (some (λ (ν : ℕ). some (λ (δ : GName). ‵ (flent (ν ∷ []) (Body (mem T.the-row) l₃ 0 δ))
+        ⊛ raw (TryConsume 𝓤 H A at-mem run .pre (called l₃ ν δ))))))
         (lends l₃) $ await ! tt $ pick ! (λ ν. pick ! (λ δ. split ! $ move ! (1 ∷ 0 ∷ []) $
-        -- _4 = try_consume(_5, _2): [what the callee takes; what the lender keeps; _6 at 2; _5 at 4; _4 at 6; the end of _3 at 8; _2 at 9; _1 at 11; _0 at 13; ..]
-        calls-at ! (fmOf 𝓤 H (W .laws) 𝓣) (TryConsume 𝓤 H A at-mem run) known (called l₃ ν δ) (and-then ! (var ! 4 refl) (and-then ! (var ! 9 refl) (no-more !))) (λ v.
-        use2 W (later (‵ (T.the-row .own h′ (vals h′)) ⊛ (‵ (bool .own (allows h n) (v ∷ [])) ⊛ ‵ (fat fullShare T′.mir l₃ 0 (val h′))))) (takes-back l₃ ν δ v) $ await ! tt $
+        -- _4 = try_consume(_5, _2): [what the callee takes; what the lender keeps; _6 at 2; _5 at 4; _4 at 6; the end of _3 at 8; _2 at 9;
+        -- _1 at 11; _0 at 13; ..]
+        calls-at ! (fmOf 𝓤 H (W .laws) 𝓣) (TryConsume 𝓤 H A at-mem run) known (called l₃ ν δ)
+        (and-then ! (var ! 4 refl) (and-then ! (var ! 9 refl) (no-more !))) (λ v.
+        use2 W (later (‵ (T.the-row .own h′ (vals h′)) ⊛ (‵ (bool .own (allows h n) (v ∷ []))
+        ⊛ ‵ (fat fullShare T′.mir l₃ 0 (val h′))))) (takes-back l₃ ν δ v) $ await ! tt $
         split ! $ seen ! T.the-row h′ (vals h′) (λ is. move ! (1 ∷ []) $ split ! $ seen ! bool (allows h n) (v ∷ []) (λ told.
         -- [what the answer owns; _3; what the bucket owns; _6 at 3; _5 at 5; _4 at 7; the end of _3 at 9; _2 at 10; _1 at 12; _0 at 14; ..]
         land ! (from ! (stop !)) (init ! 7 refl (bool-lawful 𝓤 H A W .typed (allows h n) _ told .0)) $
@@ -169,9 +178,11 @@ module _
         -- [what the result owns; _3; _6 at 2; _5 at 4; _4 at 6; the end of _3 at 8; _2 at 9; _1 at 11; _0 at 13; ..]
         assigns ! (agg ! (and-then ! (var ! 2 refl) (and-then ! (var ! 6 refl) (no-more !)))) (from ! (stop !))
         (init ! 13 refl (Laws.lawful B.the-type B′.the-laws 𝓤 H A W .typed (nextCall h n) _ made .0)) $
-        returns ! (look ! 13 refl) $ forget ! 1 refl $ forget ! 2 refl $ forget ! 4 refl $ forget ! 6 refl $ forget ! 9 refl $ forget ! 11 refl $ forget ! 13 refl $
+        returns ! (look ! 13 refl) $ forget ! 1 refl $ forget ! 2 refl $ forget ! 4 refl $ forget ! 6 refl $ forget ! 9 refl $ forget ! 11 refl $
+        forget ! 13 refl $
         move ! (13 ∷ 14 ∷ []) $ free1 ! $ move ! (11 ∷ 12 ∷ []) $ free1 ! $ move ! (9 ∷ 10 ∷ []) $ free1 ! $ move ! (1 ∷ 8 ∷ []) $ free1 ! $
-        move ! (5 ∷ 6 ∷ []) $ free1 ! $ move ! (3 ∷ 4 ∷ []) $ free1 ! $ move ! (1 ∷ 2 ∷ []) $ free1 ! $ free0 ! $ keep ! (0 ∷ []) $ by ! (exits (both v)))))))))))))))
+        move ! (5 ∷ 6 ∷ []) $ free1 ! $ move ! (3 ∷ 4 ∷ []) $ free1 ! $ move ! (1 ∷ 2 ∷ []) $ free1 ! $ free0 ! $ keep ! (0 ∷ []) $
+        by ! (exits (both v)))))))))))))))
 
 module _ {M : Type 1} (𝓤 : URA M) (H : Heap 𝓤) (A : Atoms 𝓤) (W : Given 𝓤 H A) (at-mem : Memory → SProp 𝓤) (run : Routine → Fun 𝓤) where
   meets :
@@ -191,4 +202,5 @@ next-call-spec 𝓤 H 𝓜 𝓖 𝓡 =
     entered 𝓤 H (tripleOf 𝓤 H (𝓖 .A) f.signature (f.spec 𝓤 H (𝓖 .A) (𝓜 .mem) (𝓡 .run)))
     (tables 𝓤 H 𝓜 𝓡 code.env .C) (tables 𝓤 H 𝓜 𝓡 code.env .Λ) #next-call code.function (code.unfolded 𝓤 H 𝓜 𝓡)
     (meets 𝓤 H (𝓖 .A) (givenOf 𝓤 H 𝓜 𝓖) (𝓜 .mem) (𝓡 .run) (tablesOf 𝓤 H 𝓜 (tables 𝓤 H 𝓜 𝓡 code.env))
-    (cited 𝓤 H (TryConsume 𝓤 H (𝓖 .A) (𝓜 .mem) (𝓡 .run)) 𝓜 𝓡 code.env #try-consume callee-def.routine code.calls-records·bucket·RateBucket·try-consume (callee-thm.met 𝓤 H 𝓜 𝓖 𝓡)))
+    (cited 𝓤 H (TryConsume 𝓤 H (𝓖 .A) (𝓜 .mem) (𝓡 .run)) 𝓜 𝓡 code.env #try-consume callee-def.routine code.calls-records·bucket·RateBucket·try-consume
+    (callee-thm.met 𝓤 H 𝓜 𝓖 𝓡)))

@@ -15,8 +15,10 @@ use prog.Wp.{Heap, WpFn, Tables}
 use ghost.Atoms.{Atoms, sem}
 use contract.Monad.{Fun}
 use contract.Running.{givenOf, tables, tablesOf}
-use types.Kit.{Given, Item, ‵, raw, _⊛_, later, ⋆, _$_, _∵_, !, qed, by, move, keep, drop, use0, use1, split, join, fsplit, fsplit3, fjoin, fjoin3, feqI, suffices, frame, await, done}
-use types.Run.{look, look-raw, init, store-raw, forget, stop, hop, from, load, of-opd, assigns, and-then, no-more, land, returns, enter, alloc1, alloc0, params1, pass1, pass0, free1, free0}
+use types.Kit.{Given, Item, ‵, raw, _⊛_, later, ⋆, _$_, _∵_, !, qed, by, move, keep, drop, use0, use1, split, join, fsplit, fsplit3, fjoin, fjoin3, feqI}
+use types.Kit.{suffices, frame, await, done}
+use types.Run.{look, look-raw, init, store-raw, forget, stop, hop, from, load, of-opd, assigns, and-then, no-more, land, returns, enter, alloc1, alloc0}
+use types.Run.{params1, pass1, pass0, free1, free0}
 use types.SemTy.{Body}
 use sound.WpLaws.{FmC, fmOf, WpFn-mono}
 use denote.RattleType.{owns}
@@ -104,7 +106,8 @@ module _
     exits v =
         qed W (left v) ∵
         suffices ! _
-        (ends-at 𝓤 H A f.ended stayed (f.clauses 𝓤 H A at-mem run) W (((κ, tt), (q, tt), tt, x, at), tt) v (allows h n) (consumed h n, (tt, tt)) (tt, (tt, tt))) $
+        (ends-at 𝓤 H A f.ended stayed (f.clauses 𝓤 H A at-mem run) W (((κ, tt), (q, tt), tt, x, at), tt) v (allows h n)
+        (consumed h n, (tt, tt)) (tt, (tt, tt))) $
         says ! (refl, refl) $ nothing ! $ move ! (3 ∷ 0 ∷ []) $ join ! $ frame ! $ feqI ! (List Val) (vptr b o ∷ []) (vptr b o ∷ []) refl $ fjoin3 ! $
         nothing ! $ time-owned ! n fits $ fjoin ! $ move ! (1 ∷ 0 ∷ []) $ fjoin ! $ frame ! $ done !
 
@@ -127,7 +130,8 @@ module _
           spelt ! T.the-row Bucketed (shows 𝓤 H A T.the-row) vals (Laws.tells T.the-type T′.the-laws) fullShare h vs b o $
           move ! (1 ∷ []) $ seen ! T.the-row h (vals h) (λ was. drop ! $
           -- [the lent bucket; the open borrow; observed; known; _5 at 4; _4 at 6; _3 at 8; _2 at 10; _1 at 12; _0 at 14; ..]
-          assigns ! (of-opd ! (load ! (from ! (hop ! (look ! 12 refl) (stop !))) (look-raw ! 0 refl))) (from ! (stop !)) (init ! 8 refl (typed 𝓤 H A W h _ was .0)) $
+          assigns ! (of-opd ! (load ! (from ! (hop ! (look ! 12 refl) (stop !))) (look-raw ! 0 refl))) (from ! (stop !))
+          (init ! 8 refl (typed 𝓤 H A W h _ was .0)) $
           -- _4 = allows(_3, _2)
           use0 W (raw (Allows 𝓤 H A at-mem run .pre called)) (asks was) $
           calls-at ! fm (Allows 𝓤 H A at-mem run) known-allows called (and-then ! (var ! 9 refl) (and-then ! (var ! 11 refl) (no-more !))) (λ v.
@@ -138,7 +142,8 @@ module _
           calls-at ! fm (Consumed 𝓤 H A at-mem run) known-consumed called (and-then ! (var ! 10 refl) (and-then ! (var ! 12 refl) (no-more !))) (λ v′.
           use1 W (later (‵ (T.the-row .own (consumed h n) (v′ ∷ [])))) (taken v′) $ await ! tt $ seen ! T.the-row (consumed h n) (v′ ∷ []) (λ is.
           land ! (from ! (stop !)) (init ! 6 refl (typed 𝓤 H A W (consumed h n) _ is .0)) $
-          -- [what the new bucket owns; what the answer owns; the lent bucket at 2; the open borrow; observed; known; _5 at 6; _4 at 8; _3 at 10; _2 at 12; _1 at 14; _0 at 16; ..]
+          -- [what the new bucket owns; what the answer owns; the lent bucket at 2; the open borrow; observed; known; _5 at 6; _4 at 8; _3 at 10; _2 at 12;
+          -- _1 at 14; _0 at 16; ..]
           assigns ! (of-opd ! (var ! 6 refl)) (from ! (hop ! (look ! 14 refl) (stop !))) (store-raw ! 2 refl (typed 𝓤 H A W (consumed h n) _ is .0)) $
           assigns ! (of-opd ! (var ! 8 refl)) (from ! (stop !)) (init ! 16 refl (bool-lawful 𝓤 H A W .typed (allows h n) _ told .0)) $
           -- the borrow is closed at the new bucket
@@ -168,5 +173,7 @@ try-consume-spec 𝓤 H 𝓜 𝓖 𝓡 =
     entered 𝓤 H (tripleOf 𝓤 H (𝓖 .A) f.signature (f.spec 𝓤 H (𝓖 .A) (𝓜 .mem) (𝓡 .run)))
     (tables 𝓤 H 𝓜 𝓡 code.env .C) (tables 𝓤 H 𝓜 𝓡 code.env .Λ) #try-consume code.function (code.unfolded 𝓤 H 𝓜 𝓡)
     (meets 𝓤 H (𝓖 .A) (givenOf 𝓤 H 𝓜 𝓖) (𝓜 .mem) (𝓡 .run) (tablesOf 𝓤 H 𝓜 (tables 𝓤 H 𝓜 𝓡 code.env))
-    (cited 𝓤 H (Allows 𝓤 H (𝓖 .A) (𝓜 .mem) (𝓡 .run)) 𝓜 𝓡 code.env #allows allows-def.routine code.calls-records·bucket·RateBucket·allows (allows-thm.met 𝓤 H 𝓜 𝓖 𝓡))
-    (cited 𝓤 H (Consumed 𝓤 H (𝓖 .A) (𝓜 .mem) (𝓡 .run)) 𝓜 𝓡 code.env #consumed consumed-def.routine code.calls-records·bucket·RateBucket·consumed (consumed-thm.met 𝓤 H 𝓜 𝓖 𝓡)))
+    (cited 𝓤 H (Allows 𝓤 H (𝓖 .A) (𝓜 .mem) (𝓡 .run)) 𝓜 𝓡 code.env #allows allows-def.routine code.calls-records·bucket·RateBucket·allows
+    (allows-thm.met 𝓤 H 𝓜 𝓖 𝓡))
+    (cited 𝓤 H (Consumed 𝓤 H (𝓖 .A) (𝓜 .mem) (𝓡 .run)) 𝓜 𝓡 code.env #consumed consumed-def.routine code.calls-records·bucket·RateBucket·consumed
+    (consumed-thm.met 𝓤 H 𝓜 𝓖 𝓡)))
