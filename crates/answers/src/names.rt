@@ -6,8 +6,11 @@ use text::put::put_octets;
 use text::words::short_word_end;
 use wire::number::least;
 
+// How many octets the table has: 24 for each name.
+pub const NAMES_LEN: usize = 1152;
+
 // The names of the 43 alert codes by their numbers, and behind them those of the five severities, each in 24 octets.
-pub const NAMES: [u8; 1152] = *b"\
+pub const NAMES: [u8; NAMES_LEN] = *b"\
     Unspecified             \
     CrcFailure              \
     WriteProtection         \
@@ -60,7 +63,7 @@ pub const NAMES: [u8; 1152] = *b"\
 // Where the names of the severities begin.
 pub const SEVERITIES: usize = 43;
 
-// Puts a space and the name at a place of the table.
+// Puts a space and the name at a place of the table, which has 48; a later place has none.
 pub fn put_name(line: &mut [u8], at: usize, names: &[u8], place: usize) -> usize
     requires { ⌜ at ≤ length (now line) ⌝ }
     ensures { λ r. ⌜ Counts r (now (line .exit)) ⌝ }

@@ -146,7 +146,7 @@ fn put_any_alerts(line: &mut [u8], at: usize, names: &[u8], result: InspectResul
 }
 
 // Puts whether a frame is allowed.
-fn put_verdict(line: &mut [u8], at: usize, allowed: bool) -> usize
+fn put_allowed(line: &mut [u8], at: usize, allowed: bool) -> usize
     requires { ⌜ at ≤ length (now line) ⌝ }
     ensures { λ r. ⌜ Counts r (now (line .exit)) ⌝ }
 {
@@ -162,7 +162,7 @@ pub fn put_result(line: &mut [u8], at: usize, names: &[u8], result: InspectResul
     ensures { λ r. ⌜ Counts r (now (line .exit)) ⌝ }
 {
     let unused = rest_is_unused(result);
-    let mut end = put_verdict(line, at, result.allowed);
+    let mut end = put_allowed(line, at, result.allowed);
     end = put_number(line, end, b" source ", result.source_type as u64);
     end = put_number(line, end, b" alerts ", result.alert_count as u64);
     end = put_any_alerts(line, end, names, result);

@@ -6,6 +6,7 @@ ghost use lib.ListN.{length};
 ghost use Rattle.checks.specs.GoosePublisher.{gooseFitsAt, goosePublisher, withGoosePublisher, gooseAdded};
 use crate::keys::publisher_key;
 use crate::rules::Added;
+use crate::rules::PUBLISHER_KEYS;
 use crate::rules::add_answer;
 use crate::rules::rule_count;
 use records::search::Found;
@@ -14,9 +15,7 @@ use tables::column::word;
 use tables::named::has_key;
 use tables::named::store_key;
 
-// Where the keys begin, behind the addresses, and where the lengths of names and the count stand.
-const KEYS: usize = 16;
-
+// Where the lengths of names and the count stand.
 const LENGTHS: usize = 32;
 
 const COUNT: usize = 176;
@@ -32,7 +31,7 @@ fn fits_at(t: &[u64], place: usize, address: u64, name: &[u64; 10]) -> bool
     if word(t, LENGTHS, place) == 0 {
         return true;
     }
-    has_key(t, KEYS, place, name)
+    has_key(t, PUBLISHER_KEYS, place, name)
 }
 
 // The place of the first rule that fits.
@@ -59,7 +58,7 @@ fn store_goose_publisher(t: &mut [u64], slot: usize, address: u64, name: &[u64; 
     ensures { λ _. ⌜ now (t .exit) ≡ withGoosePublisher (now (t .entry)) slot address (now (name .entry)) ⌝ }
 {
     set_word(t, 0, slot, address);
-    store_key(t, KEYS, slot, name);
+    store_key(t, PUBLISHER_KEYS, slot, name);
     t[COUNT] = (slot as u64) + 1;
 }
 

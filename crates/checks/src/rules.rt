@@ -4,6 +4,9 @@ ghost use mathlib.Core.Path.{_≡_};
 ghost use Rattle.checks.specs.Rules.{ruleCount, addAnswer};
 use records::error::VsError;
 
+// Where the keys of publishers begin, behind sixteen addresses.
+pub const PUBLISHER_KEYS: usize = 16;
+
 // The answer of an add call.
 pub enum Added {
     Rule,

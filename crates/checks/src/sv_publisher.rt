@@ -6,6 +6,7 @@ ghost use lib.ListN.{length};
 ghost use Rattle.checks.specs.SvPublisher.{matchAt, svPublisher, publisherRate, withSvPublisher, svAdded};
 use crate::keys::publisher_key;
 use crate::rules::Added;
+use crate::rules::PUBLISHER_KEYS;
 use crate::rules::add_answer;
 use crate::rules::rule_count;
 use records::search::Found;
@@ -14,9 +15,7 @@ use tables::column::word16;
 use tables::named::has_key;
 use tables::named::store_key;
 
-// Where the keys begin, behind the addresses, and where rates and count stand.
-const KEYS: usize = 16;
-
+// Where rates and count stand.
 const RATES: usize = 176;
 
 const COUNT: usize = 192;
@@ -54,7 +53,7 @@ pub fn sv_publisher(t: &[u64], address: u64, svid: &[u64; 10]) -> PublisherMatch
     let mut place = Found::Nothing;
     let mut i: usize = 0;
     while i < n {
-        if has_key(t, KEYS, i, svid) {
+        if has_key(t, PUBLISHER_KEYS, i, svid) {
             is_registered = true;
             if t[i] == address {
                 place = Found::At(i);
@@ -79,7 +78,7 @@ fn store_sv_publisher(t: &mut [u64], slot: usize, address: u64, svid: &[u64; 10]
     ensures { λ _. ⌜ now (t .exit) ≡ withSvPublisher (now (t .entry)) slot address (now (svid .entry)) rate ⌝ }
 {
     set_word(t, 0, slot, address);
-    store_key(t, KEYS, slot, svid);
+    store_key(t, PUBLISHER_KEYS, slot, svid);
     set_word(t, RATES, slot, rate as u64);
     t[COUNT] = (slot as u64) + 1;
 }

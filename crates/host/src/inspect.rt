@@ -1,5 +1,5 @@
 // The inspections by value as C exports: a frame of numbers, or the octets of an SV frame, and the result in numbers. Each inspects on the monitor that
-// it was handed, so that this is copied once less.
+// it was handed, which is given back.
 ghost use mathlib.Core.Path.{_≡_};
 ghost use Rattle.wire.specs.Sv.{svFrame};
 ghost use Rattle.monitor.specs.Monitor.{monitorOf};

@@ -3,16 +3,15 @@ use Prim.Native.Nat.{ℕ, _+_, _*_}
 use mathlib.Core.Bool.{Bool}
 use mathlib.Core.List.{List, [], _∷_}
 use mathlib.Core.Path.{_≡_, refl, ap, _∙_}
-use native.Mathlib.Omega.{arith}
 use lib.Dec.{eqb, ltb}
 use lib.ListN.{length, getD, set, length-set}
 use Rattle.records.proofs.Booleans.{cond-holds}
-use Rattle.records.proofs.NameLaws.{length-overwritten, length-tabulate}
+use Rattle.records.proofs.NameLaws.{length-overwritten}
 use Rattle.records.specs.declared.search.Found.{Found}
 use Rattle.records.specs.declared.search.Found.the-variants.{At, Nothing}
 use Rattle.records.specs.Remembered.{after}
 use Rattle.tables.proofs.OrderLaws.{length-reranked, rank-set-only, used-only}
-use Rattle.tables.proofs.WordTables.{length-none}
+use Rattle.tables.proofs.WordTables.{length-none, length-zero}
 use Rattle.tables.specs.Column.{wordOf, wordSet, zeroWords}
 use Rattle.tables.specs.Named.{keyStored, named}
 use Rattle.tables.specs.Numbered.{numbered}
@@ -32,7 +31,7 @@ use Rattle.checks.specs.Rules.{addAnswer, ifAdded}
 use Rattle.checks.specs.SvPublisher.{svPublisherCount, withSvPublisher, svAdded}
 use Rattle.checks.specs.SvSeq.{keptCount, svChecked}
 use Rattle.checks.specs.TimeField.{hasClock, TimeChecked, timeChecked}
-use Rattle.monitor.specs.Monitor.{Monitor, monitorOf, Sized}
+use Rattle.monitor.specs.Monitor.{Monitor, Sized}
 use Rattle.monitor.specs.Reset.{newTotals, freshWith, newMonitor}
 use Rattle.monitor.specs.Settings.{newSettings}
 
@@ -165,10 +164,6 @@ sized-kept {m} {m′} e z =
     same : (k : ℕ) → getD (sizes m′) k 0 ≡ getD (sizes m) k 0
     same k = ap (λ (l : List ℕ). getD l k 0) e
 
-length-zero : (n : ℕ) → length (zeroWords n) ≡ n
-unfolding zeroWords
-length-zero n = length-tabulate _ n
-
 -- all but the settings as new
 pub fresh-sized : (settings : List ℕ) → length settings ≡ 10 → Sized (freshWith settings)
 unfolding newTotals
@@ -185,6 +180,3 @@ fresh-sized settings z =
       «time_trackers» = length-none 50;
       «cb_reservations» = length-none 210;
     }
-
-pub new-sized : (strict : Bool) → Sized (newMonitor strict)
-new-sized strict = fresh-sized (newSettings strict) refl

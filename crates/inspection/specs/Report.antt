@@ -44,7 +44,7 @@ refusal severity code = record { severity = severity; code = code; refuses = tru
 abbrev pub notice : AlertSeverity → AlertCode → Finding
 notice severity code = record { severity = severity; code = code; refuses = false }
 
--- the alerts that checks give, by their answers; an answer without an alert has no code
+-- the alerts that checks give, by their answers; Nothing has the code Unspecified, number 0, which no alert of a check has
 abbrev pub findingOf : CheckAlert → Finding
 findingOf Nothing = notice Info Unspecified
 findingOf ServiceMasked = refusal Medium UnknownFunctionCode

@@ -53,7 +53,7 @@ pub enum RuleCheck {
     Rate(u16),
 }
 
-// One alert.
+// What one check found, as what all checks of the frame found.
 pub fn one_alert(alert: CheckAlert) -> CheckAlerts
     ensures { λ r. ⌜ alertsOf r ≡ findingsOf alert ⌝ }
 {
@@ -153,7 +153,7 @@ fn refuses(alert: CheckAlert) -> bool
     }
 }
 
-// Whether a check found nothing.
+// Whether a check found nothing: no alert of a check has the code 0.
 fn is_nothing(alert: CheckAlert) -> bool
     ensures { λ r. ⌜ r ≡ isNothing alert ⌝ }
 {
@@ -331,7 +331,7 @@ pub fn noted_on(m: &mut [u64; WORDS], alerts: CheckAlerts) -> [u8; 8]
     noted.verdict
 }
 
-// The same. Most frames have no alert, and get their verdict at once: a constant, since the other has a place of its own.
+// The same. Most frames have no alert and get a constant; the other verdict is bound first, so that the constant is not built in its place.
 pub fn verdict_on(m: &mut [u64; WORDS], alerts: CheckAlerts) -> [u8; 8]
     ensures { λ r. ⌜ ((source sourceNumber time : ℕ) → record { monitor = monitorOf (now (m .exit)); answer = r }
         ≡ withVerdict (reported source sourceNumber time (ended (monitorOf (now (m .entry))) (alertsOf alerts)))) ⌝ }

@@ -6,12 +6,10 @@ use mathlib.Core.Path.{_≡_, ap, _∙_}
 use borrow.Rule.Slice.PartMut.{putMid}
 use lib.ListN.{length}
 use Rattle.records.specs.declared.schedule.RetxSchedule.{RetxSchedule}
-use Rattle.records.specs.Name.{tabulate}
 use Rattle.records.specs.Schedule.{defaultSchedule}
-use Rattle.records.proofs.NameLaws.{length-tabulate}
 use Rattle.tables.specs.Column.{zeroWords}
 use Rattle.tables.specs.Order.{noEntries}
-use Rattle.tables.proofs.WordTables.{length-none}
+use Rattle.tables.proofs.WordTables.{length-none, length-zero}
 use Rattle.checks.specs.Keys.{flagWord}
 use Rattle.monitor.specs.Monitor.{Monitor, monitorOf, withSettings, withMmsRules, withGoosePublishers, withSvPublishers, withRateBuckets}
 use Rattle.monitor.specs.Monitor.{withGooseSeq, withSvSeq, withTimeTrackers, withCbReservations}
@@ -19,10 +17,6 @@ use Rattle.monitor.specs.Reset.{newMonitor, resetMonitor}
 use Rattle.monitor.specs.Settings.{settingSet, setRetxSchedule}
 use Rattle.monitor.proofs.PartLaws.{settings-back, mms-rules-back, goose-publishers-back, sv-publishers-back, rate-buckets-back}
 use Rattle.monitor.proofs.PartLaws.{goose-seq-back, sv-seq-back, time-trackers-back, cb-reservations-back}
-
-length-zero : (n : ℕ) → length (zeroWords n) ≡ n
-unfolding zeroWords
-length-zero n = length-tabulate _ n
 
 module _ (l : List ℕ) {l′ : List ℕ} where
   pub settings-zero : (length l ≡ 1148) × (l′ ≡ putMid 0 10 l (zeroWords 10)) → monitorOf l′ ≡ withSettings (monitorOf l) (zeroWords 10)

@@ -5,8 +5,6 @@ ghost use mathlib.Core.Path.{_≡_};
 ghost use lib.ListN.{length};
 ghost use Rattle.records.specs.Name.{octetAt, overwritten};
 
-pub const VERDICT_LEN: usize = 8;
-
 // Puts the first `n` octets of a verdict from a place on.
 fn put_first(verdicts: &mut [u8], at: usize, verdict: [u8; 8], n: usize)
     requires { ⌜ (n ≤ 8) × (at + n ≤ length (now verdicts)) ⌝ }

@@ -3,6 +3,7 @@
 mod calls;
 
 use answers::names::NAMES;
+use answers::names::NAMES_LEN;
 use answers::refusal::put_malformed;
 use calls::make_call;
 use libc::STDOUT_FILENO;
@@ -16,6 +17,7 @@ use script::input::find_line;
 use script::input::read_found;
 use script::input::refilled;
 use script::line::CALLS;
+use script::line::CALLS_LEN;
 use script::line::Line;
 use wire::number::least;
 
@@ -74,7 +76,7 @@ fn read_on(run: Run, buffer: &mut [u8], output: &[u8]) -> Run {
 // Reads the next line if the buffer has all of it. If not, reads on. The line that the end of the input ends is the last.
 fn read_next(
     run: Run,
-    calls: &[u8; 756],
+    calls: &[u8; CALLS_LEN],
     buffer: &mut [u8],
     call: &mut [u8],
     output: &mut [u8],
@@ -98,7 +100,7 @@ fn read_next(
 // Reads the next line, or writes the answers first if there is no room for another, which has at most 2048 octets.
 fn next_call(
     run: Run,
-    calls: &[u8; 756],
+    calls: &[u8; CALLS_LEN],
     buffer: &mut [u8; 262144],
     call: &mut [u8; 262144],
     output: &mut [u8; 65536],
@@ -118,7 +120,7 @@ fn answer_call(
     run: Run,
     m: &mut [u64; WORDS],
     call: &[u8; 262144],
-    names: &[u8; 1152],
+    names: &[u8; NAMES_LEN],
     output: &mut [u8; 65536],
 ) -> Run {
     let mut out = run;

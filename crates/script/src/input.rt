@@ -3,6 +3,7 @@
 ghost use Prim.Native.Nat.{_+_, _≤_};
 ghost use lib.ListN.{length};
 ghost use Rattle.io.specs.Counts.{Counts};
+use crate::line::CALLS_LEN;
 use crate::line::Line;
 use crate::line::read_line;
 use libc::STDIN_FILENO;
@@ -88,7 +89,7 @@ pub fn find_line(input: Input, buffer: &[u8]) -> Input {
 }
 
 // Reads the line that ends where the search did. One that no line feed ends is the last, and too long if it fills the buffer.
-pub fn read_found(input: Input, calls: &[u8; 756], buffer: &[u8], call: &mut [u8]) -> Line {
+pub fn read_found(input: Input, calls: &[u8; CALLS_LEN], buffer: &[u8], call: &mut [u8]) -> Line {
     let places = within(input, buffer.len());
     let start = places.start;
     let end = places.searched;

@@ -20,9 +20,14 @@ pub enum Line {
     Unexpected(usize),
 }
 
+// How many calls there are, and how many octets their table has: 36 for each.
+const CALL_COUNT: usize = 21;
+
+pub const CALLS_LEN: usize = 756;
+
 // The calls by their numbers: the name of each in 28 octets, and the kinds of its arguments in 8. `m` is an address, `n` a name, `f` a flag, a digit
 // a number of so many octets, and `o`, which can only be the last, octets. A program lays the table out once, and lends it.
-pub const CALLS: [u8; 756] = *b"\
+pub const CALLS: [u8; CALLS_LEN] = *b"\
     new                                 \
     new_strict                          \
     reset                               \
@@ -63,15 +68,15 @@ fn is_named(name: &[u8], word: &[u8]) -> bool {
     true
 }
 
-// The number of the call that a word names; 21 if it names none.
+// The number of the call that a word names; `CALL_COUNT` if it names none.
 fn call_number(calls: &[u8], word: &[u8]) -> usize
     requires { ⌜ length (now calls) ≡ 756 ⌝ }
     ensures { λ r. ⌜ r ≤ 21 ⌝ }
 {
     let mut k: usize = 0;
     loop {
-        if k >= 21 {
-            break 21;
+        if k >= CALL_COUNT {
+            break CALL_COUNT;
         }
         let at = 36 * k;
         let end = at + 28;
@@ -117,7 +122,7 @@ fn read_call(calls: &[u8], line: &[u8], start: usize, end: usize, call: &mut [u8
     requires { ⌜ end ≤ length (now line) ⌝ }
 {
     let number = call_number(calls, &line[start..end]);
-    if number >= 21 {
+    if number >= CALL_COUNT {
         return Line::UnknownCall;
     }
     let from = 36 * number + 28;
@@ -127,7 +132,7 @@ fn read_call(calls: &[u8], line: &[u8], start: usize, end: usize, call: &mut [u8
 }
 
 // Reads a line into the record.
-pub fn read_line(calls: &[u8; 756], line: &[u8], call: &mut [u8]) -> Line {
+pub fn read_line(calls: &[u8; CALLS_LEN], line: &[u8], call: &mut [u8]) -> Line {
     let start = word_start(line, 0);
     if start == line.len() {
         return Line::Skipped;

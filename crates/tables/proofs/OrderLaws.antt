@@ -11,10 +11,10 @@ use lib.Dec.{eqb, ltb}
 use lib.ListN.{length, getD, set, length-set}
 use lib.Seq.{getD-set-same, getD-set-other, ext-getD}
 use Rattle.records.proofs.Booleans.{cond-yes, cond-no, and-no, and-yes, and-both}
-use Rattle.tables.proofs.PackedLaws.{packed-same, packed-octet, beside-below}
+use Rattle.tables.proofs.PackedLaws.{packed-same, packed-octet, updated-below}
 use Rattle.tables.specs.Order.{inUse, raised, lowered, usedRank, forgottenRank, rankIn, rankOf, reranked}
 use Rattle.tables.specs.Order.{rankSet, usedSlot, forgottenSlot, freeWord, allFree}
-use Rattle.tables.specs.Packed.{packed, octetOf, beside}
+use Rattle.tables.specs.Packed.{packed, octetOf, updated}
 
 -- ---- ranks read
 
@@ -102,38 +102,38 @@ module _ (t : List ℕ) (f : ℕ → ℕ) where
 
 -- the rank of one slot replaced in its word
 module _ (t : List ℕ) (f : ℕ → ℕ) (z : 2 ≤ length t) (b : (i : ℕ) → i < 16 → f i < 128) (s v : ℕ) (h : s < 16) where
-  abbrev besideWord : ℕ
-  besideWord = packed (beside (octetOf (getD (reranked t f) (s / 8) 0)) (s % 8) v) 8
+  abbrev updatedWord : ℕ
+  updatedWord = packed (updated (octetOf (getD (reranked t f) (s / 8) 0)) (s % 8) v) 8
 
-  beside-here : besideWord ≡ packed (λ j. beside f s v (s / 8 * 8 + j)) 8
-  beside-here = packed-same _ _ 8 (λ j l. go j l (ℕ-discrete j (s % 8)))
+  updated-here : updatedWord ≡ packed (λ j. updated f s v (s / 8 * 8 + j)) 8
+  updated-here = packed-same _ _ 8 (λ j l. go j l (ℕ-discrete j (s % 8)))
     where
-      go : (j : ℕ) → j < 8 → Dec (j ≡ s % 8) → beside (octetOf (getD (reranked t f) (s / 8) 0)) (s % 8) v j ≡ beside f s v (s / 8 * 8 + j)
+      go : (j : ℕ) → j < 8 → Dec (j ≡ s % 8) → updated (octetOf (getD (reranked t f) (s / 8) 0)) (s % 8) v j ≡ updated f s v (s / 8 * 8 + j)
       go j l (yes e) = cond-yes _ _ (eq-eqb j (s % 8) e) ∙ sym (cond-yes _ _ (eq-eqb (s / 8 * 8 + j) s (omega arith)))
       go j l (no n) =
           cond-no _ _ (ne-eqb j (s % 8) n) ∙ reranked-place t f z b (s / 8) j (omega arith) l
           ∙ sym (cond-no _ _ (ne-eqb (s / 8 * 8 + j) s (λ q. n (omega arith))))
 
-  reranked-word-set : set (reranked t f) (s / 8) besideWord ≡ reranked t (beside f s v)
+  reranked-word-set : set (reranked t f) (s / 8) updatedWord ≡ reranked t (updated f s v)
   reranked-word-set =
-      ext-getD 0 (set (reranked t f) (s / 8) besideWord) (reranked t (beside f s v))
-      (simp length-set (length-reranked t f ∙ sym (length-reranked t (beside f s v)))) (λ x l.
+      ext-getD 0 (set (reranked t f) (s / 8) updatedWord) (reranked t (updated f s v))
+      (simp length-set (length-reranked t f ∙ sym (length-reranked t (updated f s v)))) (λ x l.
       by-cases (decLt x 2) (λ p. within x p (ℕ-discrete x (s / 8))) (λ p.
-      getD-set-other (reranked t f) (s / 8) x besideWord 0 (λ q. omega arith) ∙ reranked-out t f x (omega arith)
-      ∙ sym (reranked-out t (beside f s v) x (omega arith))))
+      getD-set-other (reranked t f) (s / 8) x updatedWord 0 (λ q. omega arith) ∙ reranked-out t f x (omega arith)
+      ∙ sym (reranked-out t (updated f s v) x (omega arith))))
     where
-      within : (x : ℕ) → x < 2 → Dec (x ≡ s / 8) → getD (set (reranked t f) (s / 8) besideWord) x 0 ≡ getD (reranked t (beside f s v)) x 0
+      within : (x : ℕ) → x < 2 → Dec (x ≡ s / 8) → getD (set (reranked t f) (s / 8) updatedWord) x 0 ≡ getD (reranked t (updated f s v)) x 0
       within x p (yes q) =
-          rw q (getD-set-same (reranked t f) (s / 8) besideWord 0 (omega (arith, length-reranked t f)) ∙ beside-here)
-          ∙ sym (reranked-word t (beside f s v) z x p)
+          rw q (getD-set-same (reranked t f) (s / 8) updatedWord 0 (omega (arith, length-reranked t f)) ∙ updated-here)
+          ∙ sym (reranked-word t (updated f s v) z x p)
       within x p (no q) =
-          getD-set-other (reranked t f) (s / 8) x besideWord 0 q ∙ reranked-word t f z x p
+          getD-set-other (reranked t f) (s / 8) x updatedWord 0 q ∙ reranked-word t f z x p
           ∙ packed-same _ _ 8 (λ j l. sym (cond-no _ _ (ne-eqb (x * 8 + j) s (λ e. q (omega arith)))))
-          ∙ sym (reranked-word t (beside f s v) z x p)
+          ∙ sym (reranked-word t (updated f s v) z x p)
 
-  reranked-beside : {out : List ℕ} {word : ℕ} → out ≡ reranked t f → word ≡ packed (beside (octetOf (getD out (s / 8) 0)) (s % 8) v) 8
-      → set out (s / 8) word ≡ reranked t (beside f s v)
-  reranked-beside o e = rw (e, o) reranked-word-set
+  reranked-updated : {out : List ℕ} {word : ℕ} → out ≡ reranked t f → word ≡ packed (updated (octetOf (getD out (s / 8) 0)) (s % 8) v) 8
+      → set out (s / 8) word ≡ reranked t (updated f s v)
+  reranked-updated o e = rw (e, o) reranked-word-set
 
 -- every rank changed by what it was, a word at a time, and then that of one slot
 module _ (t : List ℕ) (z : 2 ≤ length t) (g : ℕ → ℕ) (b : (r : ℕ) → r < 128 → g r < 128) (s : ℕ) (h : s < 16) {first second : ℕ}
@@ -149,9 +149,9 @@ module _ (t : List ℕ) (z : 2 ≤ length t) (g : ℕ → ℕ) (b : (r : ℕ) �
   own-octet : octetOf (getD (set (set t 0 first) 1 second) (s / 8) 0) (s % 8) ≡ g (rankOf t s)
   own-octet = ap (λ (l : List ℕ). octetOf (getD l (s / 8) 0) (s % 8)) each-is ∙ reranked-octet t _ z (λ i l. b (rankOf t i) (rank-below t i)) s h
 
-  own-replaced : (v : ℕ) {word : ℕ} → word ≡ packed (beside (octetOf (getD (set (set t 0 first) 1 second) (s / 8) 0)) (s % 8) v) 8
-      → set (set (set t 0 first) 1 second) (s / 8) word ≡ reranked t (beside (λ i. g (rankOf t i)) s v)
-  own-replaced v e = reranked-beside t (λ i. g (rankOf t i)) z (λ i l. b (rankOf t i) (rank-below t i)) s v h each-is e
+  own-replaced : (v : ℕ) {word : ℕ} → word ≡ packed (updated (octetOf (getD (set (set t 0 first) 1 second) (s / 8) 0)) (s % 8) v) 8
+      → set (set (set t 0 first) 1 second) (s / 8) word ≡ reranked t (updated (λ i. g (rankOf t i)) s v)
+  own-replaced v e = reranked-updated t (λ i. g (rankOf t i)) z (λ i l. b (rankOf t i) (rank-below t i)) s v h each-is e
 
 -- ---- a rank set
 
@@ -160,20 +160,20 @@ module _ (t : List ℕ) (s v : ℕ) where
   unfolding rankSet
   set-outside h = sym (cond-no _ _ (le-ltb s 16 h))
 
-  rank-set-is : s < 16 → rankSet t s v ≡ reranked t (beside (rankOf t) s v)
+  rank-set-is : s < 16 → rankSet t s v ≡ reranked t (updated (rankOf t) s v)
   unfolding rankSet
   rank-set-is h = cond-yes _ _ (lt-ltb s 16 h)
 
   pub rank-set-only : OnlyRanks t (rankSet t s v)
   unfolding rankSet
-  rank-set-only = reranked-if t (beside (rankOf t) s v) (ltb s 16)
+  rank-set-only = reranked-if t (updated (rankOf t) s v) (ltb s 16)
 
   module _ (h : s < 16) (z : 2 ≤ length t) {old first second : ℕ} (o : old ≡ rankOf t s) (p : first ≡ packed (rankIn (getD t 0 0)) 8)
       (q : second ≡ packed (rankIn (getD (set t 0 first) 1 0)) 8) where
     pub set-octet : octetOf (getD (set (set t 0 first) 1 second) (s / 8) 0) (s % 8) ≡ old
     set-octet = own-octet t z (λ r. r) (λ r l. l) s h p q ∙ sym o
 
-    pub set-done : {word : ℕ} → word ≡ packed (beside (octetOf (getD (set (set t 0 first) 1 second) (s / 8) 0)) (s % 8) v) 8
+    pub set-done : {word : ℕ} → word ≡ packed (updated (octetOf (getD (set (set t 0 first) 1 second) (s / 8) 0)) (s % 8) v) 8
         → set (set (set t 0 first) 1 second) (s / 8) word ≡ rankSet t s v
     set-done e = own-replaced t z (λ r. r) (λ r l. l) s h p q v e ∙ sym (rank-set-is h)
 
@@ -210,7 +210,7 @@ module _ (old word place w : ℕ) (o : old < 128) (h : place < 8) (e : w ≡ pac
   pub own-raised : rankIn word place ≡ old → octetOf w place ≡ old
   own-raised r = raised-octet place h ∙ ap (raised old) r ∙ raised-self old
 
-  pub used-own : {own : Bool} {out : ℕ} → own ≡ true → out ≡ packed (beside (octetOf w) place 0) 8
+  pub used-own : {own : Bool} {out : ℕ} → own ≡ true → out ≡ packed (updated (octetOf w) place 0) 8
       → out ≡ packed (λ j. cond (own && eqb j place) 0 (raised old (rankIn word j))) 8
   used-own t q = q ∙ rw t (packed-same _ _ 8 (λ j l. ap (λ (r : ℕ). cond (eqb j place) 0 r) (raised-octet j l)))
 
@@ -242,7 +242,7 @@ module _ (t : List ℕ) (s : ℕ) where
           by-cases (ℕ-discrete (rankOf t s) 0)
           (λ e. ap (λ (u : List ℕ). rankOf u i) (sym (use-last e)) ∙ same e (ℕ-discrete i s))
           (λ n. rw (used-is n) (reranked-in t (usedRank (rankOf t) s) z
-          (λ j m. beside-below (λ x. raised (rankOf t s) (rankOf t x)) s 0 j (omega arith) (raised-rank _ _ (rank-below t s) (rank-below t j))) i l))
+          (λ j m. updated-below (λ x. raised (rankOf t s) (rankOf t x)) s 0 j (omega arith) (raised-rank _ _ (rank-below t s) (rank-below t j))) i l))
         where
           same : rankOf t s ≡ 0 → Dec (i ≡ s) → rankOf t i ≡ usedRank (rankOf t) s i
           same e (yes q) = rw q (e ∙ sym (cond-yes _ _ (eq-eqb s s refl)))
@@ -299,7 +299,7 @@ module _ (t : List ℕ) (s : ℕ) where
       pub forgotten-rank : (i : ℕ) → i < 16 → rankOf (forgottenSlot t s) i ≡ forgottenRank (rankOf t) s i
       forgotten-rank i l =
           rw forgotten-is (reranked-in t (forgottenRank (rankOf t) s) z
-          (λ j m. beside-below (λ x. lowered (rankOf t s) (rankOf t x)) s 16 j (omega arith)
+          (λ j m. updated-below (λ x. lowered (rankOf t s) (rankOf t x)) s 16 j (omega arith)
           (omega (arith, lowered-most (rankOf t s) (rankOf t j), rank-below t j))) i l)
 
       module _ {old first second : ℕ} (o : old ≡ rankOf t s) (p : first ≡ packed (λ j. lowered old (rankIn (getD t 0 0) j)) 8)
@@ -310,9 +310,9 @@ module _ (t : List ℕ) (s : ℕ) where
         pub forget-octet : octetOf (getD (set (set t 0 first) 1 second) (s / 8) 0) (s % 8) ≡ old
         forget-octet = own-octet t z (lowered old) lowered-each s h p q ∙ ap (lowered old) (sym o) ∙ lowered-self old
 
-        pub forget-done : {word : ℕ} → word ≡ packed (beside (octetOf (getD (set (set t 0 first) 1 second) (s / 8) 0)) (s % 8) 16) 8
+        pub forget-done : {word : ℕ} → word ≡ packed (updated (octetOf (getD (set (set t 0 first) 1 second) (s / 8) 0)) (s % 8) 16) 8
             → set (set (set t 0 first) 1 second) (s / 8) word ≡ forgottenSlot t s
         forget-done e =
             own-replaced t z (lowered old) lowered-each s h p q 16 e
-            ∙ ap (λ (x : ℕ). reranked t (beside (λ i. lowered x (rankOf t i)) s 16)) o
+            ∙ ap (λ (x : ℕ). reranked t (updated (λ i. lowered x (rankOf t i)) s 16)) o
             ∙ sym forgotten-is

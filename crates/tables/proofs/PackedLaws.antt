@@ -10,7 +10,7 @@ use borrow.Author.Tests.{eq-eqb, ne-eqb}
 use lib.Bits.{bitAnd, and-block}
 use lib.Dec.{eqb·zero-suc, eqb·suc-zero, eqb·suc-suc}
 use Rattle.records.proofs.Booleans.{cond-no}
-use Rattle.tables.specs.Packed.{packed, octetOf, beside}
+use Rattle.tables.specs.Packed.{packed, octetOf, updated}
 
 pub packed-same : (f g : ℕ → ℕ) (n : ℕ) → ((k : ℕ) → k < n → f k ≡ g k) → packed f n ≡ packed g n
 unfolding packed
@@ -76,19 +76,19 @@ octets-packed w (suc n) h =
 -- ---- one octet replaced
 
 -- a bound of all values, the new one too
-pub beside-below : (f : ℕ → ℕ) (i v k : ℕ) {most : ℕ} → v < most → f k < most → beside f i v k < most
-beside-below f i v k a b = by-cases (ℕ-discrete k i) (λ q. rw (eq-eqb k i q) a) (λ q. rw (ne-eqb k i q) b)
+pub updated-below : (f : ℕ → ℕ) (i v k : ℕ) {most : ℕ} → v < most → f k < most → updated f i v k < most
+updated-below f i v k a b = by-cases (ℕ-discrete k i) (λ q. rw (eq-eqb k i q) a) (λ q. rw (ne-eqb k i q) b)
 
-pub packed-beside : (f : ℕ → ℕ) (n i v : ℕ) → i < n → packed (beside f i v) n + f i * 256 ^ i ≡ packed f n + v * 256 ^ i
+pub packed-updated : (f : ℕ → ℕ) (n i v : ℕ) → i < n → packed (updated f i v) n + f i * 256 ^ i ≡ packed f n + v * 256 ^ i
 unfolding packed
-packed-beside f zero i v h = absurd (not-suc-le-zero h)
-packed-beside f (suc n) zero v h =
-    let e = packed-same (λ k. beside f 0 v (suc k)) (λ k. f (suc k)) n (λ k l. cond-no _ _ (eqb·suc-zero k)) in omega (arith, e)
-packed-beside f (suc n) (suc i) v h =
-    let r = packed-same (λ k. beside f (suc i) v (suc k)) (beside (λ k. f (suc k)) i v) n
+packed-updated f zero i v h = absurd (not-suc-le-zero h)
+packed-updated f (suc n) zero v h =
+    let e = packed-same (λ k. updated f 0 v (suc k)) (λ k. f (suc k)) n (λ k l. cond-no _ _ (eqb·suc-zero k)) in omega (arith, e)
+packed-updated f (suc n) (suc i) v h =
+    let r = packed-same (λ k. updated f (suc i) v (suc k)) (updated (λ k. f (suc k)) i v) n
     (λ k l. ap (λ (b : Bool). cond b v (f (suc k))) (eqb·suc-suc k i)) in
-    let z : beside f (suc i) v 0 ≡ f 0 = cond-no _ _ (eqb·zero-suc i) in
-    omega (arith, r, z, next (f (suc i)), next v, packed-beside (λ k. f (suc k)) n i v (omega arith))
+    let z : updated f (suc i) v 0 ≡ f 0 = cond-no _ _ (eqb·zero-suc i) in
+    omega (arith, r, z, next (f (suc i)), next v, packed-updated (λ k. f (suc k)) n i v (omega arith))
   where
     next : (x : ℕ) → x * 256 ^ suc i ≡ x * 256 ^ i * 256
     next x = ap (λ (p : ℕ). x * p) (pow-suc 256 i) ∙ sym (mul-assoc x (256 ^ i) 256)

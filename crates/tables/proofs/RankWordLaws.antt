@@ -9,9 +9,9 @@ use borrow.Author.Tests.{lt-ltb, le-ltb}
 use lib.Bits.{bitAnd, and-mask, and-high}
 use lib.Pow.{pow-add, shl-exact}
 use Rattle.records.proofs.Booleans.{cond-yes, cond-no}
-use Rattle.tables.proofs.PackedLaws.{packed-same, packed-below, packed-sum, packed-times, packed-and, octets-packed, packed-beside, beside-below}
+use Rattle.tables.proofs.PackedLaws.{packed-same, packed-below, packed-sum, packed-times, packed-and, octets-packed, packed-updated, updated-below}
 use Rattle.tables.specs.Order.{raised, rankIn}
-use Rattle.tables.specs.Packed.{packed, octetOf, beside}
+use Rattle.tables.specs.Packed.{packed, octetOf, updated}
 
 -- ---- the low seven bits
 
@@ -97,15 +97,15 @@ module _ (w place : ℕ) (wide : w < 2 ^ 64) (h : place < 8) {old v : ℕ} (o : 
   -- what the old octet adds to the word is taken off, and what the new one adds is put on
   pub record Replaced (off on : ℕ) : Type 0 where
     pub within : off ≤ w
-    pub word : w - off + on ≡ packed (beside (octetOf w) place v) 8
+    pub word : w - off + on ≡ packed (updated (octetOf w) place v) 8
     pub fits : w - off + on < 2 ^ 64
 
   pub replaced : Replaced (old * 2 ^ (8 * place) % 2 ^ 64) (v * 2 ^ (8 * place) % 2 ^ 64)
   replaced =
       let out = ap (λ (x : ℕ). x * 256 ^ place) o in
-      let e = packed-beside (octetOf w) 8 place v h in
-      let z = packed-beside (octetOf w) 8 place 0 h in
-      let l = packed-below (beside (octetOf w) place v) 8 (λ k m. beside-below (octetOf w) place v k b (omega arith)) in
+      let e = packed-updated (octetOf w) 8 place v h in
+      let z = packed-updated (octetOf w) 8 place 0 h in
+      let l = packed-below (updated (octetOf w) place v) 8 (λ k m. updated-below (octetOf w) place v k b (omega arith)) in
       rw (shifted-octet old (omega arith), shifted-octet v b) (record {
         within = omega (arith, out, z, octets-packed w 8 wide);
         word = omega (arith, out, z, e, octets-packed w 8 wide);

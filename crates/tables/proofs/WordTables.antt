@@ -20,9 +20,9 @@ use Rattle.records.specs.Name.{tabulate, overwritten}
 use Rattle.records.specs.Remembered.{without, after}
 use Rattle.tables.proofs.NamedLaws.{name-decides, has-key}
 use Rattle.tables.proofs.OrderLaws.{rank-same, free-rank, used-only, used-rank, forgotten-only, forgotten-rank}
-use Rattle.tables.proofs.RankTable.{Table, Represents, represents-none, represents-forgotten}
+use Rattle.tables.proofs.RankTable.{Table, Represents, represents-forgotten}
 use Rattle.tables.specs.declared.place.Place.{Place}
-use Rattle.tables.specs.Column.{wordOf, wordSet}
+use Rattle.tables.specs.Column.{wordOf, wordSet, zeroWords}
 use Rattle.tables.specs.Named.{hasKey, keyStored, named}
 use Rattle.tables.specs.Numbered.{numberStored, numbered}
 use Rattle.tables.specs.Order.{rankOf, inUse, usedRank, usedSlot, forgottenSlot, freeWord, noEntries, allFree}
@@ -213,6 +213,10 @@ pub length-none : (n : ℕ) → length (noEntries n) ≡ n
 unfolding noEntries
 length-none n = length-tabulate _ n
 
+pub length-zero : (n : ℕ) → length (zeroWords n) ≡ n
+unfolding zeroWords
+length-zero n = length-tabulate _ n
+
 pub none-free : (n : ℕ) → 2 ≤ n → allFree (noEntries n) ≡ true
 unfolding noEntries allFree
 none-free n h = and-yes (word 0 (omega arith)) (word 1 (omega arith))
@@ -224,11 +228,6 @@ pub rank-none : (n : ℕ) → 2 ≤ n → (i : ℕ) → i < 16 → rankOf (noEnt
 rank-none n h = free-rank (noEntries n) (none-free n h)
 
 module _ {K W : Type 0} (keys : KeyColumns K) (L : KeyColumnLaws keys) (encoding : Encoding W) (E : EncodingLaws encoding) (dec : Discrete K) where
-  pub represents-no-entries : Represents (table keys L encoding E) (noEntries (keys .values + encoding .count * 16)) []
-  represents-no-entries =
-      let n = keys .values + encoding .count * 16 in represents-none (table keys L encoding E) (noEntries n) (length-none n)
-      (rank-none n (omega (arith, L .behind)))
-
   module _ {t : List ℕ} {l : List (K × W)} (r : Represents (table keys L encoding E) t l) where
     -- an entry forgotten goes from the list, and the others keep their order
     pub words-forgotten : (s : ℕ) → s < 16 → inUse (rankOf t) s ≡ true

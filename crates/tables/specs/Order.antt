@@ -9,7 +9,7 @@ use lib.ListN.{getD, set}
 use Rattle.records.specs.declared.search.Found.{Found}
 use Rattle.records.specs.Name.{tabulate}
 use Rattle.records.specs.Search.{first, firstFrom, slotOr}
-use Rattle.tables.specs.Packed.{packed, beside}
+use Rattle.tables.specs.Packed.{packed, updated}
 
 -- whether a slot is in use
 abbrev pub inUse : (ℕ → ℕ) → ℕ → Bool
@@ -33,11 +33,11 @@ lowered old rank = cond (ltb old rank && ltb rank 16) (rank - 1) rank
 
 -- the ranks after a use of a slot
 abbrev pub usedRank : (ℕ → ℕ) → ℕ → ℕ → ℕ
-usedRank rank slot = beside (λ i. raised (rank slot) (rank i)) slot 0
+usedRank rank slot = updated (λ i. raised (rank slot) (rank i)) slot 0
 
 -- the ranks after the entry of a slot is forgotten
 abbrev pub forgottenRank : (ℕ → ℕ) → ℕ → ℕ → ℕ
-forgottenRank rank slot = beside (λ i. lowered (rank slot) (rank i)) slot 16
+forgottenRank rank slot = updated (λ i. lowered (rank slot) (rank i)) slot 16
 
 -- ---- the words of a table
 
@@ -55,7 +55,7 @@ reranked t rank = set (set t 0 (packed rank 8)) 1 (packed (λ i. rank (8 + i)) 8
 
 -- the rank of a slot set; a slot of 16 or more changes nothing
 unfoldable pub rankSet : List ℕ → ℕ → ℕ → List ℕ
-rankSet t slot r = cond (ltb slot 16) (reranked t (beside (rankOf t) slot r)) t
+rankSet t slot r = cond (ltb slot 16) (reranked t (updated (rankOf t) slot r)) t
 
 -- a slot used; a slot of 16 or more changes nothing, and so does the slot that was used last
 unfoldable pub usedSlot : List ℕ → ℕ → List ℕ

@@ -1,4 +1,4 @@
--- Octets in a word, the first the least.
+-- Octets in a word, least significant octet first.
 use Prim.Native.Nat.{ℕ, zero, suc, _+_, _*_, _/_, _%_, _^_}
 use mathlib.Core.Bool.{cond}
 use lib.Dec.{eqb}
@@ -9,8 +9,8 @@ packed octet zero = 0
 packed octet (suc n) = octet 0 + 256 * packed (λ k. octet (suc k)) n
 
 -- f with its value at one place replaced
-abbrev pub beside : (ℕ → ℕ) → ℕ → ℕ → ℕ → ℕ
-beside f place v k = cond (eqb k place) v (f k)
+abbrev pub updated : (ℕ → ℕ) → ℕ → ℕ → ℕ → ℕ
+updated f place v k = cond (eqb k place) v (f k)
 
 -- octet k of a word
 abbrev pub octetOf : ℕ → ℕ → ℕ

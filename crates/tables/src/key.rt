@@ -14,7 +14,7 @@ fn wide(x: u8) -> u64
     x as u64
 }
 
-// Two, four and eight octets as a number, the first the least. Sums of products in this shape are compiled to one load.
+// Two, four and eight octets as a number, least significant octet first. Sums of products in this shape are compiled to one load.
 fn u16_from_le(a: u8, b: u8) -> u64
     ensures { λ r. ⌜ r ≡ a + 256 * b ⌝ }
 {
@@ -60,8 +60,8 @@ fn sum_of(number: u64, a: u64, b: u64, c: u64, d: u64) -> u64
     std::num::wrapping_add_u64(three, d)
 }
 
-// The key of a number and of the name that a frame states. The name is padded first: eight whole words are then read without a test. Most data sets
-// have no name: that key is made at once.
+// The key of a number and of the name that a frame states. The name is padded first: eight whole words are then read without a test. The key of an
+// empty name is made at once.
 pub fn name_key(number: u64, octets: [u8; 64], len: u8) -> [u64; 10]
     ensures { λ r. ⌜ r ≡ keyOf number (nameOf octets len) ⌝ }
 {

@@ -1,5 +1,5 @@
 // The order of use of a table's slots, after the ageing of industrial/iec61850-monitor/src/lib.rs of craton-shield a31d888527 (Apache-2.0), changed:
-// a rank for each slot in place of ticks. A table is a slice of words; the first two have the ranks, an octet for each slot, the first the least.
+// a rank for each slot in place of ticks. A table is a slice of words; the first two have the ranks, an octet for each slot, least significant octet first.
 ghost use mathlib.Core.Bool.{true, cond, _&&_};
 ghost use mathlib.Core.Path.{_≡_};
 ghost use Prim.Native.Nat.{_≤_, _<_};
@@ -7,7 +7,7 @@ ghost use lib.Dec.{eqb};
 ghost use lib.ListN.{length};
 ghost use Rattle.tables.specs.Order.{rankIn, rankOf, freeSlot, newSlot, raised, lowered, rankSet, usedSlot, forgottenSlot};
 ghost use Rattle.tables.specs.Order.{noEntries, allFree};
-ghost use Rattle.tables.specs.Packed.{packed, octetOf, beside};
+ghost use Rattle.tables.specs.Packed.{packed, octetOf, updated};
 use records::search::Found;
 
 // The low seven bits of eight octets, their high bits, and an octet of 1 eight times.
@@ -91,13 +91,13 @@ fn ranks(word: u64) -> u64
 // A word with the octet at a place, `old`, replaced.
 fn with_octet(word: u64, place: usize, old: u64, octet: u64) -> u64
     requires { ⌜ (place < 8) × (octetOf word place ≡ old) × (octet < 256) ⌝ }
-    ensures { λ r. ⌜ r ≡ packed (beside (octetOf word) place octet) 8 ⌝ }
+    ensures { λ r. ⌜ r ≡ packed (updated (octetOf word) place octet) 8 ⌝ }
 {
     let at = 8 * place;
     word - (old << at) + (octet << at)
 }
 
-// Sets the rank of a slot; a slot of 16 or more changes nothing.
+// Sets the rank of a slot, and the high bits of all octets to 0; a slot of 16 or more changes nothing.
 pub fn set_rank(t: &mut [u64], slot: usize, rank: u64)
     requires { ⌜ (2 ≤ length (now t)) × (rank < 128) ⌝ }
     ensures { λ _. ⌜ now (t .exit) ≡ rankSet (now (t .entry)) slot rank ⌝ }
@@ -122,8 +122,7 @@ fn raised_word(old: u64, word: u64) -> u64
     low + (HIGH - not_below) / 128
 }
 
-// The same, and 0 at the place of the slot that is used, if it is one of the word's. Each word is stored once: a store into a part of it would hold up the
-// next use.
+// The same, and 0 at the place of the slot that is used, if it is one of the word's.
 fn used_word(old: u64, word: u64, own: bool, place: usize) -> u64
     requires { ⌜ (1 ≤ old) × (old < 128) × (place < 8) × (own ≡ true → rankIn word place ≡ old) ⌝ }
     ensures { λ r. ⌜ r ≡ packed (λ j. cond (own && eqb j place) 0 (raised old (rankIn word j))) 8 ⌝ }
@@ -135,7 +134,8 @@ fn used_word(old: u64, word: u64, own: bool, place: usize) -> u64
     raised
 }
 
-// Marks a use of a slot; a slot of 16 or more changes nothing. The slot that was used last is told at once: it is the commonest.
+// Marks a use of a slot. A slot of 16 or more changes nothing, and neither does the slot that was used last, the commonest. Each word is stored once: a
+// store into a part of it would hold up the next load of the whole.
 pub fn use_slot(t: &mut [u64], slot: usize)
     requires { ⌜ 2 ≤ length (now t) ⌝ }
     ensures { λ _. ⌜ now (t .exit) ≡ usedSlot (now (t .entry)) slot ⌝ }

@@ -54,7 +54,7 @@ fn copy_digits(line: &mut [u8], at: usize, digits: &[u8; 20], first: usize, n: u
     }
 }
 
-// Puts a number's decimal digits.
+// Puts the decimal digits of a number other than 0.
 fn put_digits(line: &mut [u8], at: usize, number: u64) -> usize
     requires { ⌜ at ≤ length (now line) ⌝ }
     ensures { λ r. ⌜ Counts r (now (line .exit)) ⌝ }

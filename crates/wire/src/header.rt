@@ -7,8 +7,6 @@ use crate::number::pair_at;
 
 pub const ETHERTYPE_SV: u16 = 0x88ba;
 
-pub const ETHERTYPE_GOOSE: u16 = 0x88b8;
-
 pub const ETHERTYPE_VLAN_8021Q: u16 = 0x8100;
 
 // Where the APDU of a frame starts and ends.

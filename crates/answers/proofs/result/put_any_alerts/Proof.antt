@@ -1,6 +1,5 @@
 -- `answers::result::put_any_alerts` stays within the line. Where there are no alerts, its place is the one that it was given. Assumes nothing.
 use native.Mathlib.Omega.{arith}
-use lib.ListN.{length}
 use Rattle.io.proofs.Counting.{counts}
 use borrow.Author.Needs.{needs}
 use Rattle.answers.proofs.result.put_any_alerts.Statement.{statement}
