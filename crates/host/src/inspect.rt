@@ -16,12 +16,14 @@ use crate::frame::mms_frame_of;
 use crate::result::HostInspected;
 use crate::result::HostParsed;
 use crate::result::HostRawInspected;
+use crate::result::host_report;
 use crate::result::host_result;
-use inspection::iec61850_monitor::Iec61850Monitor;
+use entries::iec61850_monitor::Iec61850Monitor;
 use inspection::inspect_goose::inspect_goose_on;
 use inspection::inspect_mms::inspect_mms_on;
+use inspection::inspect_sv::check_sv_on;
 use inspection::inspect_sv::inspect_raw_sv_on;
-use inspection::inspect_sv::inspect_sv_on;
+use records::alert::SOURCE_IEC61850_SV;
 use records::frame::SvFrame;
 use wire::sv::parse_sv;
 
@@ -65,10 +67,17 @@ pub extern "C" fn mokyndu_inspect_sv(mut monitor: Iec61850Monitor, frame: SvFram
     ensures { λ r. ⌜ record { monitor = monitorOf (r .monitor .words); answer = r .result }
         ≡ answered hostResult (inspectSv (monitorOf (monitor .words)) frame) ⌝ }
 {
-    let result = inspect_sv_on(&mut monitor.words, frame);
+    let alerts = check_sv_on(&mut monitor.words, frame);
+    let result = host_report(
+        &mut monitor.words,
+        alerts,
+        SOURCE_IEC61850_SV,
+        frame.smp_cnt as u32,
+        frame.timestamp_us,
+    );
     HostInspected {
         monitor: monitor,
-        result: host_result(result),
+        result: result,
     }
 }
 

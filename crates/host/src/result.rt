@@ -1,12 +1,18 @@
 // Answers as structs of numbers: alerts, results, verdicts, and the monitor beside them.
 ghost use mathlib.Core.Path.{_≡_};
+ghost use Rattle.records.specs.Result.{cleanResult};
 ghost use Rattle.monitor.specs.Monitor.{monitorOf};
+ghost use Rattle.inspection.specs.Report.{alertsOf, ended, reported};
 ghost use Rattle.host.specs.Flag.{addedError};
 ghost use Rattle.host.specs.Result.{hostAlert, hostResult, answered};
 use crate::flag::added_error;
 use crate::flag::flag_number;
-use inspection::iec61850_monitor::Configured;
-use inspection::iec61850_monitor::Iec61850Monitor;
+use entries::iec61850_monitor::Configured;
+use entries::iec61850_monitor::Iec61850Monitor;
+use inspection::report::CheckAlerts;
+use inspection::report::none_found;
+use inspection::report::report_on;
+use monitor::parts::WORDS;
 use records::alert::CodedAlert;
 use records::frame::SvFrame;
 use records::result::InspectResult;
@@ -115,6 +121,46 @@ pub fn host_result(found: InspectResult) -> HostResult
         alerts_truncated: flag_number(found.alerts_truncated),
         alerts: alerts,
     }
+}
+
+// A result without alerts, in numbers.
+fn clean_result(source_type: u8) -> HostResult
+    ensures { λ r. ⌜ r ≡ hostResult (cleanResult «source_type») ⌝ }
+{
+    let none = HostAlert {
+        id: 0,
+        timestamp_us: 0,
+        payload_hash: [0; 32],
+        source_id: 0,
+        severity: 0,
+        source_type: source_type,
+        code: 0,
+    };
+    HostResult {
+        allowed: 1,
+        alert_count: 0,
+        source_type: source_type,
+        alerts_truncated: 0,
+        alerts: [none; 4],
+    }
+}
+
+// The result in numbers that reports what the checks found, in a monitor. Most frames have no alert: their result is made in numbers at once.
+pub fn host_report(
+    m: &mut [u64; WORDS],
+    alerts: CheckAlerts,
+    source_type: u8,
+    source_id: u32,
+    ts_us: u64,
+) -> HostResult
+    ensures { λ r. ⌜ record { monitor = monitorOf (now (m .exit)); answer = r }
+        ≡ answered hostResult (reported «source_type» «source_id» «ts_us» (ended (monitorOf (now (m .entry))) (alertsOf alerts))) ⌝ }
+{
+    if none_found(alerts) {
+        return clean_result(source_type);
+    }
+    let found = report_on(m, alerts, source_type, source_id, ts_us);
+    host_result(found)
 }
 
 // The answer of an add call in numbers.

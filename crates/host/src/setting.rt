@@ -13,7 +13,7 @@ ghost use Rattle.host.specs.Result.{answered};
 use crate::flag::flag_number;
 use crate::result::HostConfigured;
 use crate::result::host_configured;
-use inspection::iec61850_monitor::Iec61850Monitor;
+use entries::iec61850_monitor::Iec61850Monitor;
 use records::schedule::RetxSchedule;
 
 // A monitor that is not strict.

@@ -188,7 +188,7 @@ pub fn sv_checks_on(
 }
 
 // Counts and checks an SV frame.
-fn check_sv_on(m: &mut [u64; WORDS], frame: SvFrame) -> CheckAlerts
+pub fn check_sv_on(m: &mut [u64; WORDS], frame: SvFrame) -> CheckAlerts
     ensures { λ r. ⌜ record { monitor = monitorOf (now (m .exit)); answer = alertsOf r } ≡ checkedSv (monitorOf (now (m .entry))) frame ⌝ }
 {
     let src_mac = frame.src_mac;

@@ -3,10 +3,10 @@
 use crate::frame_points::good_frame;
 use crate::write_number;
 use checks::sv_seq::SvSeqOutcome;
-use inspection::iec61850_monitor::Iec61850Monitor;
-use inspection::sv_seq::SvChecked;
-use inspection::sv_seq::SvSeqTable;
-use inspection::sv_seq::check_sv_seq;
+use entries::iec61850_monitor::Iec61850Monitor;
+use entries::sv_seq::SvChecked;
+use entries::sv_seq::SvSeqTable;
+use entries::sv_seq::check_sv_seq;
 use libc::STDOUT_FILENO;
 use records::alert::CodedAlert;
 use records::frame::GooseFrame;

@@ -4,8 +4,8 @@ use mathlib.Core.Path.{ap, _∙_}
 use borrow.Author.Needs.{needs}
 use Rattle.monitor.specs.Parts.{gooseAddedOn}
 use Rattle.monitor.specs.Monitor.{monitorOf}
-use Rattle.inspection.proofs.iec61850_monitor.Iec61850Monitor.add_goose_publisher.Statement.{statement}
-use Rattle.inspection.proofs.iec61850_monitor.Iec61850Monitor.add_goose_publisher.Tie as tie
+use Rattle.entries.proofs.iec61850_monitor.Iec61850Monitor.add_goose_publisher.Statement.{statement}
+use Rattle.entries.proofs.iec61850_monitor.Iec61850Monitor.add_goose_publisher.Tie as tie
 
 returns : tie.Need-returns
 returns c =

@@ -2,8 +2,8 @@
 use mathlib.Core.Path.{ap, _∙_}
 use borrow.Author.Needs.{needs}
 use Rattle.tables.specs.Order.{noEntries}
-use Rattle.inspection.proofs.sv_seq.clear_table.Statement.{statement}
-use Rattle.inspection.proofs.sv_seq.clear_table.Tie as tie
+use Rattle.entries.proofs.sv_seq.clear_table.Statement.{statement}
+use Rattle.entries.proofs.sv_seq.clear_table.Tie as tie
 
 returns : tie.Need-returns
 returns c = c .clear .ensures ∙ ap noEntries (search needs)

@@ -4,8 +4,8 @@ use mathlib.Core.List.{List}
 use mathlib.Core.Path.{ap, _∙_}
 use borrow.Author.Needs.{needs}
 use Rattle.checks.specs.SvSeq.{svChecked}
-use Rattle.inspection.proofs.sv_seq.check_sv_seq.Statement.{statement}
-use Rattle.inspection.proofs.sv_seq.check_sv_seq.Tie as tie
+use Rattle.entries.proofs.sv_seq.check_sv_seq.Statement.{statement}
+use Rattle.entries.proofs.sv_seq.check_sv_seq.Tie as tie
 
 returns : tie.Need-returns
 returns c =
