@@ -3,7 +3,7 @@ use Prim.Native.Nat.{ℕ, suc, _≤_, _<_}
 use mathlib.Core.Bool.{Bool, true, false, cond}
 use mathlib.Core.List.{List, [], _∷_, _++_, foldl}
 use mathlib.Core.Logic.{_≢_}
-use mathlib.Core.Path.{_≡_, refl, sym, ap, _∙_}
+use mathlib.Core.Path.{_≡_, refl, sym, ap, _∙_, subst}
 use native.Mathlib.Decide.{ℕ-discrete}
 use native.Mathlib.Omega.{arith}
 use lib.ListN.{length, replicate, length-append}
@@ -29,27 +29,20 @@ use Rattle.inspection.specs.InspectGoose.{controlBlock, gooseNumbers, goosePair
 use Rattle.inspection.specs.InspectSv.{svPair, countFindings}
 use Rattle.inspection.specs.Report.{Finding, clockFindings}
 use Rattle.inspection.proofs.AddressLaws.{addressOctets, address-octets, address-back, address-fits}
-use Rattle.demand3.specs.Demand3.{Inspection, goose, sv, Legal, afterHistory, answers, Answer, svReaches, gooseStreamOf, gooseReaches, ifClock}
-use Rattle.demand3.specs.Demand3.{clockReaches, reaching, RememberedLists, rememberedLists}
-use Rattle.demand3.specs.Demand3.{JumpLimit, Premises, Distinguished, SameAnswers, EqualLists, Demand3}
+use Rattle.demand3.specs.Demand3.{Inspection, goose, sv, Legal, afterHistory, answers, Answer, reaching, RememberedLists, rememberedLists}
+use Rattle.demand3.specs.Demand3.{JumpLimit, Premises, Distinguished, SameAnswers, EqualLists, DemandFrom, Demand3, Demand3AfterReset}
+use Rattle.demand3.proofs.Agreement.{lists-agree}
 use Rattle.demand3.proofs.AnswerLaws.{answerFrom, length-codes}
+use Rattle.demand3.proofs.LegalLaws.{LegalOne, legal-cons}
+use Rattle.demand3.proofs.MonitorTerms.{svReaches, gooseStreamOf, gooseReaches, ifClock, clockReaches, monitorLists}
 use Rattle.demand3.proofs.Observables.{Numbers, svAnswer, svObservable, gooseAnswer, gooseObservable, clockObservable}
 use Rattle.demand3.proofs.PlainMonitor.{Plain, left as leftBy, answers-from}
 use Rattle.demand3.proofs.RememberedLaws.{names≟, pairs≟, touchSv, touchGoose, touchClock, listsAfter, moved, listAnswer, listAnswers}
-use Rattle.demand3.proofs.RememberedLaws.{remembered-lists, svid-legal, LegalOne, remembers-history, answers-lists, remembers-new}
+use Rattle.demand3.proofs.RememberedLaws.{remembered-lists, svid-legal, remembers-history, answers-lists, remembers-new}
 use Rattle.demand3.proofs.Remembering.{configured-tables, configured-free}
+use Rattle.demand3.proofs.ResetLaws.{setCalls, reset-configured}
 
 -- ---- inspections made of frames of keys
-
-pub legal-cons : (x : Inspection) (h : List Inspection) → LegalOne x → Legal h → Legal (x ∷ h)
-unfolding LegalOne
-legal-cons (goose f) h g a = (g, a)
-legal-cons (sv f) h g a = (g, a)
-
-pub legal-append : (a b : List Inspection) → Legal a → Legal b → Legal (a ++ b)
-legal-append [] b g h = h
-legal-append (goose f ∷ a) b g h = (g .0, legal-append a b (g .1) h)
-legal-append (sv f ∷ a) b g h = (g .0, legal-append a b (g .1) h)
 
 module _ {K I : Type 0} {P : K × I → Type 0} (make : (x : K × I) → P x → Inspection) where
   unfoldable pub made : (xs : List (K × I)) → All P xs → List Inspection
@@ -370,17 +363,17 @@ module _ (m : Monitor) (range : JumpLimit (timeMaxForwardJump m)) where
       go false a = if-clock (f .«src_mac») (goosePair f) (g .0 .source) (g .0 .seconds, g .0 .fraction) _ a
 
   -- unequal remembered lists: the first of the three that differ, SV streams, GOOSE streams, clocks
-  unfoldable pub further-lists : (h h′ : List Inspection) → Legal h → Legal h′ → rememberedLists m h ≢ rememberedLists m h′
-      → Further m (rememberedLists m h) (rememberedLists m h′)
+  unfoldable pub further-lists : (h h′ : List Inspection) → Legal h → Legal h′ → monitorLists m h ≢ monitorLists m h′
+      → Further m (monitorLists m h) (monitorLists m h′)
   further-lists h h′ g g′ n =
       go (decideList (decidePair names≟ ℕ-discrete) (l .svStreams) (l′ .svStreams))
       (decideList (decidePair pairs≟ pairs≟) (l .gooseStreams) (l′ .gooseStreams))
     where
       l : RememberedLists
-      l = rememberedLists m h
+      l = monitorLists m h
 
       l′ : RememberedLists
-      l′ = rememberedLists m h′
+      l′ = monitorLists m h′
 
       go : Dec (l .svStreams ≡ l′ .svStreams) → Dec (l .gooseStreams ≡ l′ .gooseStreams) → Further m l l′
       go (no d) b =
@@ -418,7 +411,7 @@ module _ (strict : Bool) (settings : List Setting) (p : Premises (configuredMoni
 
   -- the answers after a history are those of its remembered lists
   pub answers-remembered : (h further : List Inspection) → Legal h → Legal further
-      → answers (afterHistory monitor h) further ≡ listAnswers monitor (rememberedLists monitor h) further
+      → answers (afterHistory monitor h) further ≡ listAnswers monitor (monitorLists monitor h) further
   answers-remembered h further g k =
       let r = leftBy plain h in
       answers-from (r .plain) further
@@ -427,7 +420,8 @@ module _ (strict : Bool) (settings : List Setting) (p : Premises (configuredMoni
 
   unfoldable pub distinguished : (h h′ : List Inspection) → Legal h → Legal h′ → ¬ EqualLists monitor h h′ → Distinguished monitor h h′
   distinguished h h′ g g′ d =
-      let f = further-lists monitor (p .jump-limit) h h′ g g′ d in
+      let n : monitorLists monitor h ≢ monitorLists monitor h′ = λ e. d (lists-agree monitor h g ∙ e ∙ sym (lists-agree monitor h′ g′)) in
+      let f = further-lists monitor (p .jump-limit) h h′ g g′ n in
       record {
         further = f .further;
         legal = f .legal;
@@ -436,7 +430,10 @@ module _ (strict : Bool) (settings : List Setting) (p : Premises (configuredMoni
       }
 
 unfoldable pub demand-3 : Demand3
-demand-3 strict settings h h′ p g g′ = ((same, only (lists≟ (rememberedLists m h) (rememberedLists m h′))), distinguished strict settings p h h′ g g′)
+demand-3 strict settings p h h′ g g′ = record {
+  equal-lists-exactly-when-same-answers = (same, only (lists≟ (rememberedLists m h) (rememberedLists m h′)));
+  unequal-lists-told-apart = distinguished strict settings p h h′ g g′;
+}
   where
     m : Monitor
     m = configuredMonitor strict settings
@@ -444,9 +441,13 @@ demand-3 strict settings h h′ p g g′ = ((same, only (lists≟ (rememberedLis
     same : EqualLists m h h′ → SameAnswers m h h′
     same e further k =
         answers-remembered strict settings p h further g k
-        ∙ ap (λ (l : RememberedLists). listAnswers m l further) e
+        ∙ ap (λ (l : RememberedLists). listAnswers m l further) (sym (lists-agree m h g) ∙ e ∙ lists-agree m h′ g′)
         ∙ sym (answers-remembered strict settings p h′ further g′ k)
 
     only : Dec (EqualLists m h h′) → SameAnswers m h h′ → EqualLists m h h′
     only (yes e) a = e
     only (no d) a = let f = distinguished strict settings p h h′ g g′ d in absurd (f .unequal (a (f .further) (f .legal)))
+
+-- a reset monitor is a new one with its set calls made
+pub demand-3-after-reset : Demand3AfterReset
+demand-3-after-reset strict calls = subst DemandFrom (sym (reset-configured strict calls)) (demand-3 strict (setCalls calls))

@@ -13,7 +13,8 @@ use Rattle.inspection.specs.InspectSv.{rawInspected, inspectRawSv}
 use Rattle.demand3.specs.Demand3.{Inspection, goose, sv, Legal, inspect, afterHistory, Answer, answerOf, answers, SameAnswers}
 use Rattle.demand3.specs.Demand3Mixed.{Arrival, decoded, raw, LegalArrivals, ifRead, inspectionOf, inspections, arrived, afterArrivals}
 use Rattle.demand3.specs.Demand3Mixed.{ifAnswered, answered, arrivalAnswers, SameArrivalAnswers, Demand3Mixed}
-use Rattle.demand3.proofs.Demand3Holds.{legal-append, demand-3}
+use Rattle.demand3.proofs.Demand3Holds.{demand-3}
+use Rattle.demand3.proofs.LegalLaws.{legal-append}
 
 -- ---- one arrival
 
@@ -97,10 +98,12 @@ module _ (m : Monitor) (a a′ : List Arrival) where
       ∙ answers-after a′ (arrivals further))
 
 pub demand-3-mixed : Demand3Mixed
-demand-3-mixed strict settings a a′ p g g′ =
+demand-3-mixed strict settings p a a′ g g′ =
     let m = configuredMonitor strict settings in
-    let d = demand-3 strict settings (inspections a) (inspections a′) p (legal-inspections a g) (legal-inspections a′ g′) in (
-      after-arrivals m a,
-      (λ e. from-inspections m a a′ (d .0 .0 e), λ e. d .0 .1 (to-inspections m a a′ e)),
-      d .1,
-    )
+    let d = demand-3 strict settings p (inspections a) (inspections a′) (legal-inspections a g) (legal-inspections a′ g′) in
+    let e = d .equal-lists-exactly-when-same-answers in
+    record {
+      monitor-of-its-inspections = after-arrivals m a;
+      equal-lists-exactly-when-same-answers = (λ q. from-inspections m a a′ (e .0 q), λ q. e .1 (to-inspections m a a′ q));
+      unequal-lists-told-apart = d .unequal-lists-told-apart;
+    }

@@ -1,5 +1,9 @@
 pub mod AnswerLaws
+pub mod LegalLaws
+pub mod MonitorTerms
+pub mod Agreement
 pub mod Remembering
+pub mod ResetLaws
 pub mod PlainMonitor
 pub mod RememberedLaws
 pub mod Observables

@@ -25,8 +25,9 @@ use Rattle.checks.specs.TimeField.{hasClock, earlier, clockAlert}
 use Rattle.inspection.specs.InspectGoose.{streamFindings}
 use Rattle.inspection.specs.InspectSv.{countFindings}
 use Rattle.inspection.specs.Report.{refusal}
-use Rattle.demand3.specs.Demand3.{Answer, countAfter, numbersAfter, JumpLimit}
+use Rattle.demand3.specs.Demand3.{Answer, JumpLimit}
 use Rattle.demand3.proofs.AnswerLaws.{answerFrom}
+use Rattle.demand3.proofs.MonitorTerms.{countAfter, numbersAfter}
 use Rattle.demand3.proofs.RememberedLaws.{names≟, pairs≟, replayed}
 
 -- ---- keys that a legal frame has

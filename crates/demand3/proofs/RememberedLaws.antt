@@ -10,7 +10,7 @@ use Rattle.records.specs.declared.alert.AlertSeverity.the-variants.{Medium}
 use Rattle.records.specs.declared.alert.AlertCode.the-variants.{PolicyViolation}
 use Rattle.records.specs.declared.frame.SvFrame.{SvFrame}
 use Rattle.records.specs.Decide.{decidePair, decideList}
-use Rattle.records.specs.Legal.{LegalGoose, LegalSv}
+use Rattle.records.specs.Legal.{LegalSv}
 use Rattle.records.specs.Remembered.{lookup}
 use Rattle.records.proofs.ByLastUse.{touch, by-last-use}
 use Rattle.records.proofs.Distinguish.{outputs}
@@ -31,9 +31,10 @@ use Rattle.inspection.specs.Address.{addressOf}
 use Rattle.inspection.specs.InspectGoose.{gooseNumbers, goosePair, streamFindings, blocked}
 use Rattle.inspection.specs.InspectSv.{svidOf, svPair, countFindings}
 use Rattle.inspection.specs.Report.{Finding, refusal, clockFindings}
-use Rattle.demand3.specs.Demand3.{Inspection, goose, sv, Legal, Answer, svReaches, gooseStreamOf, gooseReaches, ifClock, clockReaches, reaching}
-use Rattle.demand3.specs.Demand3.{countAfter, numbersAfter, RememberedLists, rememberedLists}
+use Rattle.demand3.specs.Demand3.{Inspection, goose, sv, Legal, Answer, reaching, RememberedLists}
 use Rattle.demand3.proofs.AnswerLaws.{answerFrom}
+use Rattle.demand3.proofs.LegalLaws.{LegalOne, legal-parts}
+use Rattle.demand3.proofs.MonitorTerms.{svReaches, gooseStreamOf, gooseReaches, ifClock, clockReaches, countAfter, numbersAfter, monitorLists}
 use Rattle.demand3.proofs.PlainMonitor.{unblocked, next, findings, nextAll, answersFrom}
 use Rattle.demand3.proofs.Remembering.{Remembering, newRemembering}
 
@@ -104,7 +105,7 @@ moved m l (x ∷ h) =
       clocks = sym (foldl-append touchClock (l .clocks) (clockReaches m x) (reaching (clockReaches m) h)) i;
     })
 
-pub remembered-lists : (m : Monitor) (h : List Inspection) → foldl (listsAfter m) noLists h ≡ rememberedLists m h
+pub remembered-lists : (m : Monitor) (h : List Inspection) → foldl (listsAfter m) noLists h ≡ monitorLists m h
 remembered-lists m h =
     moved m noLists h ∙ (λ i. record {
       svStreams = by-last-use names≟ 16 (λ n. n) countAfter (reaching svReaches h) i;
@@ -200,15 +201,6 @@ module _ {t : List ℕ} {l : List (ℕ × (ℕ × ℕ))} (r : HoldsClocks t l) (
       go false = refl
 
 -- ---- the three together
-
-unfoldable pub LegalOne : Inspection → Type 0
-LegalOne (goose f) = LegalGoose f
-LegalOne (sv f) = LegalSv f
-
-pub legal-parts : (x : Inspection) (h : List Inspection) → Legal (x ∷ h) → LegalOne x × Legal h
-unfolding LegalOne
-legal-parts (goose f) h g = g
-legal-parts (sv f) h g = g
 
 pub record Remembers (v : Remembering) (l : RememberedLists) : Type 0 where
   pub svSeq : HoldsSv (v .svSeq) (l .svStreams)

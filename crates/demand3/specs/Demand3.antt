@@ -1,10 +1,13 @@
 -- Demand 3 (01, "Remembered tables"): two histories leave equal remembered lists exactly when every further list of inspections gets equal answers.
-use Prim.Native.Nat.{ℕ, _≤_}
-use mathlib.Core.Bool.{Bool, false, cond}
+-- A history has its earliest frame first. A remembered list has its latest frame first, and so has the past that `remembered` reads: `latest16` turns
+-- the frames round. What is read of a frame is said here in 01's words; that the monitor reads the same is proved (proofs/Agreement.antt).
+use Prim.Native.Nat.{ℕ, min, _+_, _*_, _-_, _≤_}
+use mathlib.Core.Bool.{Bool, false, _&&_, _||_, cond}
 use mathlib.Core.List.{List, [], _∷_, _++_, map, foldl, reverse}
 use mathlib.Core.Logic.{_≢_, _↔_}
 use mathlib.Core.Path.{_≡_}
 use native.Mathlib.Decide.{ℕ-discrete}
+use lib.Dec.{eqb, ltb, leb}
 use lib.ListN.{length, take}
 use Rattle.records.specs.declared.alert.CodedAlert.{CodedAlert}
 use Rattle.records.specs.declared.frame.GooseFrame.{GooseFrame}
@@ -15,22 +18,19 @@ use Rattle.records.specs.Decide.{decidePair, decideList}
 use Rattle.records.specs.Hash.{fnv1a}
 use Rattle.records.specs.Legal.{LegalGoose, LegalSv}
 use Rattle.records.specs.Remembered.{remembered}
-use Rattle.checks.specs.GooseSeq.{replays}
-use Rattle.checks.specs.SvSeq.{countOutcome, isReplay}
-use Rattle.checks.specs.TimeField.{hasClock}
 use Rattle.checks.specs.GoosePublisher.{goosePublisherCount}
 use Rattle.checks.specs.SvPublisher.{svPublisherCount}
 use Rattle.monitor.specs.Monitor.{Monitor}
 use Rattle.monitor.specs.Parts.{After}
-use Rattle.monitor.specs.Settings.{retxEnforce, timeMaxForwardJump}
-use Rattle.inspection.specs.Address.{addressOf}
-use Rattle.inspection.specs.Calls.{Setting, configuredMonitor}
-use Rattle.inspection.specs.InspectGoose.{controlBlock, gooseNumbers, goosePair, blocked, inspectGoose}
-use Rattle.inspection.specs.InspectSv.{svidOf, svPair, inspectSv}
+use Rattle.monitor.specs.Reset.{newMonitor, resetMonitor}
+use Rattle.monitor.specs.Settings.{blockTestFrames, retxEnforce, timeMaxForwardJump}
+use Rattle.inspection.specs.Calls.{Call, Setting, configuredMonitor, afterCalls}
+use Rattle.inspection.specs.InspectGoose.{inspectGoose}
+use Rattle.inspection.specs.InspectSv.{inspectSv}
 
 -- ---- histories and answers
 
--- a history is a list of these, the earliest first, refused ones included
+-- a history is a list of these, refused ones included
 pub data Inspection : Type 0 where
   goose : GooseFrame → Inspection
   sv : SvFrame → Inspection
@@ -62,54 +62,116 @@ abbrev pub answers : Monitor → List Inspection → List Answer
 answers m [] = []
 answers m (x ∷ further) = answerOf (inspect m x .answer) ∷ answers (inspect m x .monitor) further
 
--- ---- the remembered lists, read off the frames and the monitor's settings
+-- ---- what is read of a frame
 
--- every frame but a GOOSE test frame while blocked reaches the stream check of its kind: an SV stream is its svID
-abbrev pub svReaches : Inspection → List (List ℕ × ℕ)
+-- a source address: its six octets as one number, the first the most significant
+abbrev pub Address : Type 0
+Address = ℕ
+
+abbrev pub address : List ℕ → Address
+address octets = foldl (λ n octet. n * 256 + octet) 0 octets
+
+-- a name: stated lengths above 64 count as 64
+abbrev pub name : List ℕ → ℕ → List ℕ
+name octets len = take (min len 64) octets
+
+-- an SV stream is keyed by its svID
+abbrev pub SvId : Type 0
+SvId = List ℕ
+
+abbrev pub svId : SvFrame → SvId
+svId f = name (f .svid) (f .«svid_len»)
+
+-- a GOOSE stream is keyed by its address and FNV-1a of its control block's name
+abbrev pub GooseKey : Type 0
+GooseKey = Address × ℕ
+
+abbrev pub gooseKey : GooseFrame → GooseKey
+gooseKey f = (address (f .«src_mac»), fnv1a (name (f .«go_cb_ref») (f .«go_cb_ref_len»)))
+
+abbrev pub StNumSqNum : Type 0
+StNumSqNum = ℕ × ℕ
+
+abbrev pub stNumSqNum : GooseFrame → StNumSqNum
+stNumSqNum f = (f .«st_num», f .«sq_num»)
+
+-- the pair of a clock: seconds and fraction
+abbrev pub TimePair : Type 0
+TimePair = ℕ × ℕ
+
+abbrev pub goosePair : GooseFrame → TimePair
+goosePair f = (f .«t_seconds_since_epoch», f .«t_fraction_of_second»)
+
+abbrev pub svPair : SvFrame → TimePair
+svPair f = (f .«t_seconds_since_epoch», f .«t_fraction_of_second»)
+
+-- ---- which frames reach a check; [] where a frame does not
+
+-- every SV frame reaches the check of its stream
+abbrev pub svReaches : Inspection → List (SvId × ℕ)
 svReaches (goose f) = []
-svReaches (sv f) = (svidOf f, f .«smp_cnt») ∷ []
+svReaches (sv f) = (svId f, f .«smp_cnt») ∷ []
 
--- a GOOSE stream is its address and FNV-1a of its control block's name
-abbrev pub gooseStreamOf : GooseFrame → ℕ × ℕ
-gooseStreamOf f = (addressOf (f .«src_mac»), fnv1a (controlBlock f))
+-- a pair (0, 0) is neither checked nor kept
+abbrev pub clockReached : Address → TimePair → List (Address × TimePair)
+clockReached a pair = cond (eqb (pair .0) 0 && eqb (pair .1) 0) [] ((a, pair) ∷ [])
 
-abbrev pub gooseReaches : Monitor → Inspection → List ((ℕ × ℕ) × (ℕ × ℕ))
-gooseReaches m (goose f) = cond (blocked m (f .test)) [] ((gooseStreamOf f, gooseNumbers f) ∷ [])
-gooseReaches m (sv f) = []
+module _ (m : Monitor) where
+  -- a GOOSE test frame while blocked reaches neither check
+  abbrev pub unlessBlocked : {X : Type 0} → GooseFrame → List X → List X
+  unlessBlocked f reached = cond (f .test && blockTestFrames m) [] reached
 
--- and the clock check too unless its pair is (0, 0)
-abbrev pub ifClock : ℕ → ℕ × ℕ → List (ℕ × (ℕ × ℕ))
-ifClock address pair = cond (hasClock pair) ((address, pair) ∷ []) []
+  abbrev pub gooseReaches : Inspection → List (GooseKey × StNumSqNum)
+  gooseReaches (goose f) = unlessBlocked f ((gooseKey f, stNumSqNum f) ∷ [])
+  gooseReaches (sv f) = []
 
-abbrev pub clockReaches : Monitor → Inspection → List (ℕ × (ℕ × ℕ))
-clockReaches m (goose f) = cond (blocked m (f .test)) [] (ifClock (addressOf (f .«src_mac»)) (goosePair f))
-clockReaches m (sv f) = ifClock (addressOf (f .«src_mac»)) (svPair f)
+  -- clocks are shared by GOOSE and SV
+  abbrev pub clockReaches : Inspection → List (Address × TimePair)
+  clockReaches (goose f) = unlessBlocked f (clockReached (address (f .«src_mac»)) (goosePair f))
+  clockReaches (sv f) = clockReached (address (f .«src_mac»)) (svPair f)
 
--- of the frames of a history, those that reach a check, the earliest first
+-- of the frames of a history, those that reach a check
 abbrev pub reaching : {X : Type 0} → (Inspection → List X) → List Inspection → List X
 reaching reaches [] = []
 reaching reaches (x ∷ h) = reaches x ++ reaching reaches h
 
--- a frame that is a replay leaves the stream's count or numbers, any other replaces them: said apart from the tables' steps
+-- ---- the remembered lists
+
+-- a count n is a replay of the last one c where it equals c, or is below c by 32766 or less
+abbrev pub replaysCount : ℕ → ℕ → Bool
+replaysCount c n = leb n c && leb (c - n) 32766
+
+-- lower stNum, or equal stNum with sqNum not above the last
+abbrev pub replaysNumbers : StNumSqNum → StNumSqNum → Bool
+replaysNumbers last new = ltb (new .0) (last .0) || (eqb (new .0) (last .0) && leb (new .1) (last .1))
+
+-- a replay leaves the stream's numbers, any other frame replaces them
 abbrev pub countAfter : ℕ → ℕ → ℕ
-countAfter last new = cond (isReplay (countOutcome last new)) last new
+countAfter last new = cond (replaysCount last new) last new
 
-abbrev pub numbersAfter : ℕ × ℕ → ℕ × ℕ → ℕ × ℕ
-numbersAfter last new = cond (replays last new) last new
+abbrev pub numbersAfter : StNumSqNum → StNumSqNum → StNumSqNum
+numbersAfter last new = cond (replaysNumbers last new) last new
 
--- of each check the latest 16 distinct keys by last frame, with count, numbers or pair; a clock is its last pair
+-- a clock is its last pair
+abbrev pub pairAfter : TimePair → TimePair → TimePair
+pairAfter last new = new
+
+-- the latest 16 distinct keys by last frame, each with its numbers: afresh those of its first frame, then what each further frame leaves
+abbrev pub latest16 : {K W : Type 0} → Discrete K → (W → W → W) → List (K × W) → List (K × W)
+latest16 dec step frames = remembered dec 16 (λ new. new) step (reverse frames)
+
 pub record RememberedLists : Type 0 where
-  pub svStreams : List (List ℕ × ℕ)
-  pub gooseStreams : List ((ℕ × ℕ) × (ℕ × ℕ))
-  pub clocks : List (ℕ × (ℕ × ℕ))
+  pub svStreams : List (SvId × ℕ)
+  pub gooseStreams : List (GooseKey × StNumSqNum)
+  pub clocks : List (Address × TimePair)
 
--- the lists that a history leaves, under the settings of this monitor
+-- the lists that a history leaves, read off its frames and the monitor's settings
 abbrev pub rememberedLists : Monitor → List Inspection → RememberedLists
 rememberedLists m h =
     record {
-      svStreams = remembered (decideList ℕ-discrete) 16 (λ n. n) countAfter (reverse (reaching svReaches h));
-      gooseStreams = remembered (decidePair ℕ-discrete ℕ-discrete) 16 (λ n. n) numbersAfter (reverse (reaching (gooseReaches m) h));
-      clocks = remembered ℕ-discrete 16 (λ p. p) (λ kept p. p) (reverse (reaching (clockReaches m) h));
+      svStreams = latest16 (decideList ℕ-discrete) countAfter (reaching svReaches h);
+      gooseStreams = latest16 (decidePair ℕ-discrete ℕ-discrete) numbersAfter (reaching (gooseReaches m) h);
+      clocks = latest16 ℕ-discrete pairAfter (reaching (clockReaches m) h);
     }
 
 -- ---- the claim
@@ -125,25 +187,36 @@ pub record Premises (m : Monitor) : Type 0 where
   pub not-enforced : retxEnforce m ≡ false
   pub jump-limit : JumpLimit (timeMaxForwardJump m)
 
-module _ (m : Monitor) (h h′ : List Inspection) where
-  -- every further list gets the same answers after both
-  abbrev pub SameAnswers : Type 0
-  SameAnswers = (further : List Inspection) → Legal further → answers (afterHistory m h) further ≡ answers (afterHistory m h′) further
+module _ (m : Monitor) where
+  module _ (h h′ : List Inspection) where
+    -- both leave equal lists: keys, numbers or pairs, and order
+    abbrev pub EqualLists : Type 0
+    EqualLists = rememberedLists m h ≡ rememberedLists m h′
 
-  -- some further list of at most 16 inspections gets unequal answers
-  pub record Distinguished : Type 0 where
-    pub further : List Inspection
-    pub legal : Legal further
-    pub short : length further ≤ 16
-    pub unequal : answers (afterHistory m h) further ≢ answers (afterHistory m h′) further
+    -- every further list gets the same answers after both
+    abbrev pub SameAnswers : Type 0
+    SameAnswers = (further : List Inspection) → Legal further → answers (afterHistory m h) further ≡ answers (afterHistory m h′) further
 
-  -- both leave equal lists: keys, numbers or pairs, and order
-  abbrev pub EqualLists : Type 0
-  EqualLists = rememberedLists m h ≡ rememberedLists m h′
+    -- some further list of at most 16 inspections gets unequal answers
+    pub record Distinguished : Type 0 where
+      pub further : List Inspection
+      pub legal : Legal further
+      pub short : length further ≤ 16
+      pub unequal : answers (afterHistory m h) further ≢ answers (afterHistory m h′) further
 
--- for all settings and every two legal histories, of any length
+    -- the two sentences of the demand
+    pub record Sentences : Type 0 where
+      pub equal-lists-exactly-when-same-answers : EqualLists ↔ SameAnswers
+      pub unequal-lists-told-apart : ¬ EqualLists → Distinguished
+
+  -- for every two legal histories from this monitor, of any length
+  abbrev pub DemandFrom : Type 0
+  DemandFrom = Premises m → (h h′ : List Inspection) → Legal h → Legal h′ → Sentences h h′
+
+-- for a new monitor with its settings made, whatever they are
 abbrev pub Demand3 : Type 0
-Demand3 =
-    (strict : Bool) (settings : List Setting) (h h′ : List Inspection) → Premises (configuredMonitor strict settings) → Legal h → Legal h′
-    → (EqualLists (configuredMonitor strict settings) h h′ ↔ SameAnswers (configuredMonitor strict settings) h h′)
-    × (¬ EqualLists (configuredMonitor strict settings) h h′ → Distinguished (configuredMonitor strict settings) h h′)
+Demand3 = (strict : Bool) (settings : List Setting) → DemandFrom (configuredMonitor strict settings)
+
+-- and for one that was reset, whatever calls came before
+abbrev pub Demand3AfterReset : Type 0
+Demand3AfterReset = (strict : Bool) (calls : List Call) → DemandFrom (resetMonitor (afterCalls (newMonitor strict) calls))

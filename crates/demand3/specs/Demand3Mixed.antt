@@ -59,16 +59,23 @@ abbrev pub arrivalAnswers : Monitor → List Arrival → List Answer
 arrivalAnswers m [] = []
 arrivalAnswers m (x ∷ further) = answered m x ++ arrivalAnswers (arrived m x) further
 
--- every further list of arrivals gets the same answers after both
-abbrev pub SameArrivalAnswers : Monitor → List Arrival → List Arrival → Type 0
-SameArrivalAnswers m a a′ =
-    (further : List Arrival) → LegalArrivals further → arrivalAnswers (afterArrivals m a) further ≡ arrivalAnswers (afterArrivals m a′) further
+module _ (m : Monitor) where
+  module _ (a a′ : List Arrival) where
+    -- every further list of arrivals gets the same answers after both
+    abbrev pub SameArrivalAnswers : Type 0
+    SameArrivalAnswers =
+        (further : List Arrival) → LegalArrivals further → arrivalAnswers (afterArrivals m a) further ≡ arrivalAnswers (afterArrivals m a′) further
 
--- mixed histories leave the monitors of the inspections that they are, and demand 3 holds for them
+    -- the demand's two sentences, and what ties them to the inspections that arrivals are
+    pub record MixedSentences : Type 0 where
+      pub monitor-of-its-inspections : afterArrivals m a ≡ afterHistory m (inspections a)
+      pub equal-lists-exactly-when-same-answers : EqualLists m (inspections a) (inspections a′) ↔ SameArrivalAnswers
+      pub unequal-lists-told-apart : ¬ EqualLists m (inspections a) (inspections a′) → Distinguished m (inspections a) (inspections a′)
+
+  -- for every two legal lists of arrivals from this monitor, of any length
+  abbrev pub MixedDemandFrom : Type 0
+  MixedDemandFrom = Premises m → (a a′ : List Arrival) → LegalArrivals a → LegalArrivals a′ → MixedSentences a a′
+
+-- for a new monitor with its settings made, whatever they are
 abbrev pub Demand3Mixed : Type 0
-Demand3Mixed =
-    (strict : Bool) (settings : List Setting) (a a′ : List Arrival) → Premises (configuredMonitor strict settings) → LegalArrivals a → LegalArrivals a′
-    → (afterArrivals (configuredMonitor strict settings) a ≡ afterHistory (configuredMonitor strict settings) (inspections a))
-    × (EqualLists (configuredMonitor strict settings) (inspections a) (inspections a′) ↔ SameArrivalAnswers (configuredMonitor strict settings) a a′)
-    × (¬ EqualLists (configuredMonitor strict settings) (inspections a) (inspections a′)
-    → Distinguished (configuredMonitor strict settings) (inspections a) (inspections a′))
+Demand3Mixed = (strict : Bool) (settings : List Setting) → MixedDemandFrom (configuredMonitor strict settings)

@@ -1,0 +1,133 @@
+-- The claim's words agree with the monitor's definitions: what is read of a frame, which frames reach a check, and what a frame leaves.
+use Prim.Native.Nat.{ℕ, _-_, _<_}
+use mathlib.Core.Bool.{Bool, true, false, _&&_, not, cond}
+use mathlib.Core.List.{List, [], _∷_, _++_}
+use mathlib.Core.Path.{_≡_, refl, sym, ap, _∙_}
+use native.Mathlib.Decide.{ℕ-discrete, decLt}
+use native.Mathlib.Omega.{arith}
+use borrow.Author.Tests.{lt-ltb, le-ltb, le-leb, lt-leb, eq-eqb, ne-eqb}
+use lib.Dec.{eqb, leb}
+use lib.ListN.{length}
+use Rattle.records.specs.declared.frame.GooseFrame.{GooseFrame}
+use Rattle.records.specs.Decide.{decidePair, decideList}
+use Rattle.records.specs.Legal.{OctetArray, LegalGoose}
+use Rattle.checks.specs.GooseSeq.{replays}
+use Rattle.checks.specs.declared.sv_seq.SvSeqOutcome.the-variants.{Replay, CycleWrap, SuspiciousSmpGap}
+use Rattle.checks.specs.SvSeq.{acrossWrap, countOutcome, isReplay}
+use Rattle.checks.specs.TimeField.{hasClock}
+use Rattle.monitor.specs.Monitor.{Monitor}
+use Rattle.monitor.specs.Settings.{blockTestFrames}
+use Rattle.inspection.specs.Address.{addressOf}
+use Rattle.inspection.specs.InspectGoose.{gooseNumbers, goosePair, blocked}
+use Rattle.inspection.specs.InspectSv.{svPair}
+use Rattle.demand3.specs.Demand3.{Inspection, goose, sv, Legal, Address, address, TimePair, StNumSqNum, clockReached, reaching, replaysCount}
+use Rattle.demand3.specs.Demand3.{replaysNumbers, pairAfter, unlessBlocked, latest16, rememberedLists}
+use Rattle.demand3.specs.Demand3 as claim
+use Rattle.demand3.proofs.LegalLaws.{LegalOne, legal-parts}
+use Rattle.demand3.proofs.MonitorTerms.{svReaches, gooseStreamOf, gooseReaches, ifClock, clockReaches, countAfter, numbersAfter, monitorLists}
+
+-- ---- what is read of a frame
+
+-- an address of six octets
+pub address-agrees : (mac : List ℕ) → length mac ≡ 6 → address mac ≡ addressOf mac
+unfolding addressOf
+address-agrees (a ∷ b ∷ c ∷ d ∷ e ∷ f ∷ []) n = omega arith
+address-agrees [] n = absurd (omega (arith, n))
+address-agrees (a ∷ []) n = absurd (omega (arith, n))
+address-agrees (a ∷ b ∷ []) n = absurd (omega (arith, n))
+address-agrees (a ∷ b ∷ c ∷ []) n = absurd (omega (arith, n))
+address-agrees (a ∷ b ∷ c ∷ d ∷ []) n = absurd (omega (arith, n))
+address-agrees (a ∷ b ∷ c ∷ d ∷ e ∷ []) n = absurd (omega (arith, n))
+address-agrees (a ∷ b ∷ c ∷ d ∷ e ∷ f ∷ g ∷ l) n = absurd (omega (arith, n))
+
+-- ---- replays
+
+pub count-agrees : (c n : ℕ) → replaysCount c n ≡ isReplay (countOutcome c n)
+unfolding countOutcome isReplay
+count-agrees c n = go (decLt c n) (decLt n c)
+  where
+    across : (f : ℕ) → false ≡ isReplay (acrossWrap f)
+    across f = far (leb f 256)
+      where
+        far : (b : Bool) → false ≡ isReplay (cond b CycleWrap (SuspiciousSmpGap f))
+        far true = refl
+        far false = refl
+
+    below : (b : Bool) (f : ℕ) → b ≡ isReplay (cond b Replay (acrossWrap f))
+    below true f = refl
+    below false f = across f
+
+    go : Dec (c < n) → Dec (n < c) → replaysCount c n ≡ isReplay (countOutcome c n)
+    go (yes l) d = rw (lt-leb n c l, ne-eqb n c (omega arith), lt-ltb c n l)
+    go (no l) (yes k) = rw (le-leb n c (omega arith), ne-eqb n c (omega arith), le-ltb c n (omega arith)) (below (leb (c - n) 32766) (65536 - (c - n)))
+    go (no l) (no k) = let e : n ≡ c = omega arith in rw (e, le-leb c c (omega arith), eq-eqb c c refl) (le-leb (c - c) 32766 (omega arith))
+
+pub numbers-agree : (last new : StNumSqNum) → replaysNumbers last new ≡ replays last new
+unfolding replays
+numbers-agree last new = refl
+
+-- ---- what a frame leaves
+
+count-after : (last new : ℕ) → claim.countAfter last new ≡ countAfter last new
+count-after last new = ap (λ (b : Bool). cond b last new) (count-agrees last new)
+
+numbers-after : (last new : StNumSqNum) → claim.numbersAfter last new ≡ numbersAfter last new
+numbers-after last new = ap (λ (b : Bool). cond b last new) (numbers-agree last new)
+
+-- either way the new pair is kept
+pair-after : (last new : TimePair) → pairAfter last new ≡ new
+pair-after last new = refl
+
+-- ---- which frames reach a check
+
+swapped : (a b : Bool) → (a && b) ≡ (b && a)
+swapped true true = refl
+swapped true false = refl
+swapped false true = refl
+swapped false false = refl
+
+clock-agrees : (mac : List ℕ) (pair : TimePair) → length mac ≡ 6 → clockReached (address mac) pair ≡ ifClock (addressOf mac) pair
+unfolding hasClock
+clock-agrees mac pair n = rw (address-agrees mac n) (go (eqb (pair .0) 0 && eqb (pair .1) 0))
+  where
+    kept : List (Address × TimePair)
+    kept = (addressOf mac, pair) ∷ []
+
+    go : (b : Bool) → cond b [] kept ≡ cond (not b) kept []
+    go true = refl
+    go false = refl
+
+module _ (m : Monitor) where
+  blocked-agrees : {X : Type 0} (f : GooseFrame) (l : List X) → unlessBlocked m f l ≡ cond (blocked m (f .test)) [] l
+  blocked-agrees f l = ap (λ (b : Bool). cond b [] l) (swapped (f .test) (blockTestFrames m))
+
+  goose-agrees : (x : Inspection) → LegalOne x → claim.gooseReaches m x ≡ gooseReaches m x
+  unfolding LegalOne
+  goose-agrees (goose f) g = rw (address-agrees (f .«src_mac») (g .source .size)) (blocked-agrees f ((gooseStreamOf f, gooseNumbers f) ∷ []))
+  goose-agrees (sv f) g = refl
+
+  clocks-agree : (x : Inspection) → LegalOne x → claim.clockReaches m x ≡ clockReaches m x
+  unfolding LegalOne
+  clocks-agree (goose f) g =
+      blocked-agrees f (clockReached (address (f .«src_mac»)) (goosePair f))
+      ∙ ap (cond (blocked m (f .test)) []) (clock-agrees (f .«src_mac») (goosePair f) (g .source .size))
+  clocks-agree (sv f) g = clock-agrees (f .«src_mac») (svPair f) (g .source .size)
+
+reaching-agrees : {X : Type 0} (r r′ : Inspection → List X) → ((x : Inspection) → LegalOne x → r x ≡ r′ x)
+    → (h : List Inspection) → Legal h → reaching r h ≡ reaching r′ h
+reaching-agrees r r′ e [] g = refl
+reaching-agrees r r′ e (x ∷ h) g = let p = legal-parts x h g in λ i. e x (p .0) i ++ reaching-agrees r r′ e h (p .1) i
+
+-- ---- the lists that a history leaves
+
+pub lists-agree : (m : Monitor) (h : List Inspection) → Legal h → rememberedLists m h ≡ monitorLists m h
+lists-agree m h g =
+    λ i. record {
+      svStreams = latest16 (decideList ℕ-discrete) (λ last new. count-after last new i) (reaching svReaches h);
+      gooseStreams =
+          latest16 (decidePair ℕ-discrete ℕ-discrete) (λ last new. numbers-after last new i)
+          (reaching-agrees (claim.gooseReaches m) (gooseReaches m) (goose-agrees m) h g i);
+      clocks =
+          latest16 ℕ-discrete (λ last new. pair-after last new i)
+          (reaching-agrees (claim.clockReaches m) (clockReaches m) (clocks-agree m) h g i);
+    }
