@@ -63,7 +63,7 @@ pub mod counted {
         named(std::format!("error {} {number}", CALL.lock().unwrap()));
     }
 
-    /// Counts a result of the call, by its verdict, severities and codes; not the clean one beside an error.
+    /// Counts a result of the call, by its verdict, severities and codes; not the one beside an error.
     pub fn result(result: &super::InspectResult) {
         if FAILED.load(Relaxed) {
             return;

@@ -7,7 +7,7 @@ use crate::service::MmsServiceType;
 // An MMS association.
 pub type MmsClientId = u32;
 
-// A decoded MMS request. In SelectControl and CancelControl `domain` names the control block. The service and its raw
+// A decoded MMS request. In SelectControl, CancelControl and Conclude `domain` names the control block. The service and its raw
 // number may disagree.
 pub struct MmsFrame {
     pub service_type: MmsServiceType,

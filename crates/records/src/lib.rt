@@ -1,4 +1,4 @@
-// The lowest crate of the IEC 61850 monitor: numbers and enums, alerts, results, frames, schedule, hash, bucket, names, ageing.
+// The lowest crate of the IEC 61850 monitor: numbers and enums, alerts, results, verdicts, frames, schedule, hash, bucket, names.
 pub mod alert;
 pub mod bucket;
 pub mod counter;
