@@ -1,6 +1,7 @@
 pub mod Booleans
 pub mod Lists
 pub mod NumberLaws
+pub mod RowLaws
 pub mod Products
 pub mod HashLaws
 pub mod BucketLaws

@@ -1,7 +1,6 @@
 -- The numbers of errors, severities, alert codes and services are injective: each case is read back from its number.
 use mathlib.Core.Path.{_≡_, refl, sym, _∙_, ap}
 use mathlib.Core.List.{List, [], _∷_}
-use Prim.Native.Nat.{ℕ}
 use lib.ListN.{getD}
 use Rattle.records.specs.declared.error.VsError.{VsError}
 use Rattle.records.specs.declared.error.VsError.the-variants as error
@@ -17,7 +16,7 @@ use Rattle.records.specs.Service.{serviceNumber, serviceOf}
 
 -- a function whose argument can be read back is injective
 pub read-back :
-    {A : Type 0} (number : A → ℕ) (case : ℕ → A) → ((a : A) → case (number a) ≡ a)
+    {A B : Type 0} (number : A → B) (case : B → A) → ((a : A) → case (number a) ≡ a)
     → (a b : A) → number a ≡ number b → a ≡ b
 read-back number case back a b e = sym (back a) ∙ ap case e ∙ back b
 

@@ -1,4 +1,5 @@
 pub mod Error
+pub mod Row
 pub mod Counter
 pub mod Alert
 pub mod Result

@@ -1,8 +1,14 @@
 -- The search for a slot (01, "Forms to change": a search that stops at its first hit and yields that place).
 use Prim.Native.Nat.{ℕ, zero, suc}
 use mathlib.Core.Bool.{Bool, true, false, cond}
+use mathlib.Core.List.{List, [], _∷_}
 use Rattle.records.specs.declared.search.Found.{Found}
 use Rattle.records.specs.declared.search.Found.the-variants.{At, Nothing}
+
+-- the answer as a row: 1 and the slot, or 0
+abbrev pub foundRow : Found → List ℕ
+foundRow (At i) = 1 ∷ i ∷ []
+foundRow Nothing = 0 ∷ []
 
 -- the first slot, of the n from i on, that passes the test
 unfoldable pub firstFrom : (ℕ → Bool) → ℕ → ℕ → Found
