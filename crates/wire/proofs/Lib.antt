@@ -5,3 +5,5 @@ pub mod HeaderLaws
 pub mod SvLaws
 pub mod PointsHold
 pub mod SvLegal
+pub mod RowLaws
+pub mod RefusalsHold

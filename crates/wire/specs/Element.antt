@@ -4,12 +4,24 @@ use mathlib.Core.Bool.{_&&_, _||_, cond}
 use mathlib.Core.List.{List, [], _∷_}
 use lib.Dec.{eqb, ltb, leb}
 use lib.ListN.{length, take, drop}
+use Rattle.records.specs.declared.error.VsError.the-variants.{InvalidInput}
 use Rattle.records.specs.Name.{octetAt}
+use Rattle.records.specs.Row.{errorRow}
 use Rattle.wire.specs.declared.element.Length.{Length}
 use Rattle.wire.specs.declared.element.Length.the-variants.{Definite, Refused}
 use Rattle.wire.specs.declared.element.Element.{Element}
 use Rattle.wire.specs.declared.element.Element.the-variants.{Read, Unreadable}
 use Rattle.wire.specs.Number.{bigEndian}
+
+-- length octets as a row: 1, how many they are and the length that they state, or error 9
+abbrev pub lengthRow : Length → List ℕ
+lengthRow (Definite octets value) = 1 ∷ octets ∷ value ∷ []
+lengthRow Refused = errorRow InvalidInput
+
+-- an element as a row: 1, its tag, where its content starts, its length and where it ends, or error 9
+abbrev pub elementRow : Element → List ℕ
+elementRow (Read tag start len end) = 1 ∷ tag ∷ start ∷ len ∷ end ∷ []
+elementRow Unreadable = errorRow InvalidInput
 
 -- a length above 65535 is refused
 abbrev pub limited : ℕ → ℕ → Length

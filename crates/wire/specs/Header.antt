@@ -1,14 +1,21 @@
 -- The Ethernet header (01, "SV frame"): destination, source, one 802.1Q tag or none, EtherType, APPID, length, two reserved pairs.
 use Prim.Native.Nat.{ℕ, _+_, _-_}
 use mathlib.Core.Bool.{_&&_, cond}
-use mathlib.Core.List.{List}
+use mathlib.Core.List.{List, [], _∷_}
 use lib.Dec.{eqb, leb}
 use lib.ListN.{length, replicate}
+use Rattle.records.specs.declared.error.VsError.the-variants.{InvalidInput}
 use Rattle.records.specs.Name.{tabulate, octetAt}
+use Rattle.records.specs.Row.{errorRow}
 use Rattle.wire.specs.declared.header.Apdu.{Apdu}
 use Rattle.wire.specs.declared.header.Apdu.the-variants.{At, Refused}
 use Rattle.wire.specs.declared.header.Header.{Header}
 use Rattle.wire.specs.Number.{pairAt}
+
+-- the APDU's place as a row: 1, where it starts and where it ends, or error 9
+abbrev pub apduRow : Apdu → List ℕ
+apduRow (At start end) = 1 ∷ start ∷ end ∷ []
+apduRow Refused = errorRow InvalidInput
 
 -- APPID follows the EtherType, which one 802.1Q tag (81 00 and two octets) may precede
 unfoldable pub appidAt : List ℕ → ℕ

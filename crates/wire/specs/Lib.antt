@@ -2,4 +2,5 @@ pub mod Number
 pub mod Element
 pub mod Header
 pub mod Sv
+pub mod Refusals
 pub mod Points

@@ -4,7 +4,9 @@ use mathlib.Core.Bool.{_&&_, cond}
 use mathlib.Core.List.{List, [], _∷_}
 use lib.Dec.{leb}
 use lib.ListN.{length}
+use Rattle.records.specs.declared.error.VsError.the-variants.{InvalidInput}
 use Rattle.records.specs.Name.{octetAt}
+use Rattle.records.specs.Row.{errorRow}
 use Rattle.wire.specs.declared.number.Unsigned.{Unsigned}
 use Rattle.wire.specs.declared.number.Unsigned.the-variants.{Value, Refused}
 
@@ -25,3 +27,8 @@ pairAt octets i = octetAt octets i * 256 + octetAt octets (i + 1)
 unfoldable pub unsignedInt : List ℕ → Unsigned
 unsignedInt octets =
     cond (leb 1 (length octets) && leb (length octets) 4 && leb (bigEndian octets) 65535) (Value (bigEndian octets)) Refused
+
+-- the answer as a row: 1 and the value, or error 9
+abbrev pub unsignedRow : Unsigned → List ℕ
+unsignedRow (Value v) = 1 ∷ v ∷ []
+unsignedRow Refused = errorRow InvalidInput

@@ -6,9 +6,9 @@ use lib.Dec.{eqb, ltb, leb}
 use lib.ListN.{length, take, drop}
 use Rattle.records.specs.declared.error.VsError.the-variants.{InvalidInput}
 use Rattle.records.specs.declared.frame.SvFrame.{SvFrame}
-use Rattle.records.specs.Error.{errorNumber}
 use Rattle.records.specs.Frame.{defaultSv}
 use Rattle.records.specs.Name.{validLen, octetAt, overwritten}
+use Rattle.records.specs.Row.{errorRow}
 use Rattle.wire.specs.declared.number.Unsigned.{Unsigned}
 use Rattle.wire.specs.declared.number.Unsigned.the-variants as unsigned
 use Rattle.wire.specs.declared.header.Apdu.{Apdu}
@@ -23,10 +23,10 @@ use Rattle.wire.specs.Number.{bigEndian, pairAt, unsignedInt}
 use Rattle.wire.specs.Element.{Elements, ended, unreadable, next, elements, firstContent, opened}
 use Rattle.wire.specs.Header.{header}
 
--- the error's number where there is one (01, "Refusals in checking order": 9 for an unreadable frame)
-abbrev pub errorOf : Parsed → List ℕ
-errorOf Frame = []
-errorOf (Error e) = errorNumber e ∷ []
+-- the answer as a row: 1, or 0 and the error (01, "Refusals in checking order", 3: 9 for an unreadable frame)
+abbrev pub parsedRow : Parsed → List ℕ
+parsedRow Frame = 1 ∷ []
+parsedRow (Error e) = errorRow e
 
 -- an unreadable frame is InvalidInput, and no frame
 unfoldable pub refusedSv : ParsedSv

@@ -1,0 +1,47 @@
+-- The rows of numbers of the readers' answers are injective.
+use mathlib.Core.Path.{_≡_, refl, ap}
+use Rattle.records.proofs.RowLaws.{error-row-injective}
+use Rattle.wire.specs.declared.element.Element.{Element}
+use Rattle.wire.specs.declared.element.Element.the-variants.{Read, Unreadable}
+use Rattle.wire.specs.declared.element.Length.{Length}
+use Rattle.wire.specs.declared.element.Length.the-variants as length
+use Rattle.wire.specs.declared.header.Apdu.{Apdu}
+use Rattle.wire.specs.declared.header.Apdu.the-variants as apdu
+use Rattle.wire.specs.declared.number.Unsigned.{Unsigned}
+use Rattle.wire.specs.declared.number.Unsigned.the-variants as unsigned
+use Rattle.wire.specs.declared.sv.Parsed.{Parsed}
+use Rattle.wire.specs.declared.sv.Parsed.the-variants.{Frame, Error}
+use Rattle.wire.specs.Element.{lengthRow, elementRow}
+use Rattle.wire.specs.Header.{apduRow}
+use Rattle.wire.specs.Number.{unsignedRow}
+use Rattle.wire.specs.Sv.{parsedRow}
+
+pub length-row-injective : (a b : Length) → lengthRow a ≡ lengthRow b → a ≡ b
+length-row-injective (length.Definite o v) (length.Definite p w) e = cc
+length-row-injective (length.Definite o v) length.Refused e = cc
+length-row-injective length.Refused (length.Definite p w) e = cc
+length-row-injective length.Refused length.Refused e = refl
+
+pub element-row-injective : (a b : Element) → elementRow a ≡ elementRow b → a ≡ b
+element-row-injective (Read t s l n) (Read u r m k) e = cc
+element-row-injective (Read t s l n) Unreadable e = cc
+element-row-injective Unreadable (Read u r m k) e = cc
+element-row-injective Unreadable Unreadable e = refl
+
+pub unsigned-row-injective : (a b : Unsigned) → unsignedRow a ≡ unsignedRow b → a ≡ b
+unsigned-row-injective (unsigned.Value v) (unsigned.Value w) e = cc
+unsigned-row-injective (unsigned.Value v) unsigned.Refused e = cc
+unsigned-row-injective unsigned.Refused (unsigned.Value w) e = cc
+unsigned-row-injective unsigned.Refused unsigned.Refused e = refl
+
+pub apdu-row-injective : (a b : Apdu) → apduRow a ≡ apduRow b → a ≡ b
+apdu-row-injective (apdu.At s n) (apdu.At r k) e = cc
+apdu-row-injective (apdu.At s n) apdu.Refused e = cc
+apdu-row-injective apdu.Refused (apdu.At r k) e = cc
+apdu-row-injective apdu.Refused apdu.Refused e = refl
+
+pub parsed-row-injective : (a b : Parsed) → parsedRow a ≡ parsedRow b → a ≡ b
+parsed-row-injective Frame Frame e = refl
+parsed-row-injective Frame (Error y) e = cc
+parsed-row-injective (Error x) Frame e = cc
+parsed-row-injective (Error x) (Error y) e = ap Error (error-row-injective x y e)
