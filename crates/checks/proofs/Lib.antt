@@ -4,4 +4,5 @@ pub mod GooseSeqLaws
 pub mod RateLaws
 pub mod ReservationLaws
 pub mod RuleLaws
+pub mod RowLaws
 pub mod TablesRemembered

@@ -1,14 +1,15 @@
 -- Laws of rules: an add call's answer and list, a rule stored, and what the rules tell of an svID and an address.
-use Prim.Native.Nat.{ℕ, _+_, _≤_}
+use Prim.Native.Nat.{ℕ, _+_, _≤_, _<_}
 use mathlib.Core.Bool.{Bool, true, false, _&&_, cond}
 use mathlib.Core.List.{List}
 use mathlib.Core.Path.{_≡_, refl, ap, sym, _∙_}
 use native.Mathlib.Numerals.{add-one}
-use borrow.Author.Tests.{leb-true}
+use borrow.Author.Tests.{leb-true, lt-ltb, le-ltb, le-leb, lt-leb}
 use lib.Dec.{ltb, leb}
 use lib.ListN.{set}
 use Rattle.records.proofs.Booleans.{answered}
 use Rattle.records.specs.declared.error.VsError.{VsError}
+use Rattle.records.specs.declared.error.VsError.the-variants.{ResourceExhausted, InvalidInput}
 use Rattle.records.specs.declared.search.Found.{Found}
 use Rattle.records.specs.declared.search.Found.the-variants.{At, Nothing}
 use Rattle.records.specs.Search.{lastBelow, isFound}
@@ -19,10 +20,28 @@ use Rattle.checks.specs.declared.rules.Added.the-variants.{Rule, Error}
 use Rattle.checks.specs.Keys.{flagWord}
 use Rattle.checks.specs.GoosePublisher.{withGoosePublisher}
 use Rattle.checks.specs.MmsRule.{withMmsRule}
-use Rattle.checks.specs.Rules.{addAnswer, ruleAdded}
+use Rattle.checks.specs.Rules.{addedRow, addAnswer, AddNumbers, ruleAdded}
 use Rattle.checks.specs.SvPublisher.{matchAt, withSvPublisher}
 
 -- ---- an add call
+
+-- its answer: a full list, a long name, and neither
+module _ (count len : ℕ) where
+  pub list-full : 16 ≤ count → addAnswer count len ≡ Error ResourceExhausted
+  unfolding addAnswer
+  list-full h = rw (le-ltb count 16 h)
+
+  pub name-long : count < 16 → 64 < len → addAnswer count len ≡ Error InvalidInput
+  unfolding addAnswer
+  name-long h l = rw (lt-ltb count 16 h, lt-leb len 64 l)
+
+  pub rule-fits : count < 16 → len ≤ 64 → addAnswer count len ≡ Rule
+  unfolding addAnswer
+  rule-fits h l = rw (lt-ltb count 16 h, le-leb len 64 l)
+
+  pub add-numbers : AddNumbers count len (addAnswer count len)
+  add-numbers =
+      record { full = λ h. ap addedRow (list-full h); long = λ h l. ap addedRow (name-long h l); fits = λ h l. ap addedRow (rule-fits h l) }
 
 abbrev isRule : Added → Bool
 isRule Rule = true

@@ -2,7 +2,7 @@
 -- from word 16 on, rates from 176 on, and the count at 192.
 use Prim.Native.Nat.{ℕ, _+_, min}
 use mathlib.Core.Bool.{Bool, _&&_, cond}
-use mathlib.Core.List.{List}
+use mathlib.Core.List.{List, [], _∷_}
 use lib.Dec.{eqb}
 use lib.ListN.{length, getD, set}
 use Rattle.records.specs.declared.search.Found.{Found}
@@ -14,6 +14,13 @@ use Rattle.checks.specs.declared.sv_publisher.PublisherMatch.{PublisherM
 use Rattle.checks.specs.declared.sv_publisher.PublisherMatch.the-variants.{NotRegistered, WrongAddress, Fits}
 use Rattle.checks.specs.Keys.{plainKey}
 use Rattle.checks.specs.Rules.{ruleCount, addAnswer, RuleAdded, ruleAdded}
+
+-- the match as a row: 1 and the place of the rule, or 0 and the refusal of 01 that it may lead to: 14 registered, never with this address, 15 not
+-- among the rules
+abbrev pub publisherMatchRow : PublisherMatch → List ℕ
+publisherMatchRow NotRegistered = 0 ∷ 15 ∷ []
+publisherMatchRow WrongAddress = 0 ∷ 14 ∷ []
+publisherMatchRow (Fits i) = 1 ∷ i ∷ []
 
 -- how many publishers there are
 abbrev pub svPublisherCount : List ℕ → ℕ

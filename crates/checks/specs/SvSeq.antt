@@ -1,7 +1,7 @@
 -- SV streams (01, "Remembered tables": keyed by svID, last count c).
 use Prim.Native.Nat.{ℕ, _-_}
 use mathlib.Core.Bool.{Bool, cond}
-use mathlib.Core.List.{List}
+use mathlib.Core.List.{List, [], _∷_}
 use mathlib.Core.Option.{Option, none, some}
 use lib.Dec.{eqb, ltb, leb}
 use Rattle.tables.specs.Named.{named}
@@ -45,6 +45,10 @@ outcomeGap Replay = 0
 outcomeGap (ForwardGap gap) = gap
 outcomeGap CycleWrap = 0
 outcomeGap (SuspiciousSmpGap gap) = gap
+
+-- the outcome as a row: its number and its gap
+abbrev pub outcomeRow : SvSeqOutcome → List ℕ
+outcomeRow o = outcomeNumber o ∷ outcomeGap o ∷ []
 
 -- whether an outcome is replay
 unfoldable pub isReplay : SvSeqOutcome → Bool
