@@ -9,7 +9,9 @@ use Rattle.records.specs.Name.{tabulate}
 use Rattle.wire.specs.declared.sv.Parsed.{Parsed}
 use Rattle.wire.specs.declared.sv.Parsed.the-variants as parsed
 use Rattle.wire.specs.Sv.{svFrame}
+use Rattle.wire.proofs.RefusalsHold.{sv-answers}
 use Rattle.tables.specs.Column.{zeroWords}
+use Rattle.checks.proofs.RuleLaws.{add-numbers}
 use Rattle.checks.specs.GoosePublisher.{gooseAdded}
 use Rattle.checks.specs.MmsRule.{mmsAdded}
 use Rattle.checks.specs.SvPublisher.{svAdded}
@@ -23,16 +25,16 @@ use Rattle.inspection.specs.declared.inspect_sv.RawSv.{RawSv}
 use Rattle.inspection.specs.Address.{addressOf}
 use Rattle.inspection.specs.Calls.{Setting, serviceMask, readOnly, newMmsRule, newGoosePublisher, newSvPublisher, blockTest, maxSmpCntGap}
 use Rattle.inspection.specs.Calls.{schedule, maxForwardJump, Call, setting, mms, goose, sv, rawSv, reset, settingMade, called, afterCalls}
-use Rattle.inspection.specs.CallTheorems.{SameRules, InspectionsKeepRules, AtMost16, RuleCountsHold, addedNumber, RefusalNumbers, alertCount}
+use Rattle.inspection.specs.CallTheorems.{SameRules, InspectionsKeepRules, AtMost16, RuleCountsHold, alertCount}
 use Rattle.inspection.specs.CallTheorems.{ResultsNotTruncated, framesOf, unlessReset, countFrom, TotalsCount, nextNumber, alertNumbers, consecutive}
 use Rattle.inspection.specs.CallTheorems.{AlertNumbersConsecutive, mmsRuleError, goosePublisherError, svPublisherError, rawFrameError}
-use Rattle.inspection.specs.CallTheorems.{RefusedChangesNothing, RefusedLeftOut, UnreadableNotAllowed}
+use Rattle.inspection.specs.CallTheorems.{RefusalNumbers, RawRefusals, RefusedChangesNothing, RefusedLeftOut, UnreadableNotAllowed}
 use Rattle.inspection.specs.InspectMms.{inspectMms}
 use Rattle.inspection.specs.InspectGoose.{inspectGoose}
 use Rattle.inspection.specs.InspectSv.{inspectSv, rawInspected, inspectRawSv}
 use Rattle.inspection.proofs.CallLaws.{mms-inspects, goose-inspects, sv-inspects, raw-inspects, stepped, called-sized}
 use Rattle.inspection.proofs.ReportLaws.{saturating, wrapping}
-use Rattle.inspection.proofs.RuleLaws.{list-full, name-long, rule-fits, not-added, mms-count, goose-count, sv-count}
+use Rattle.inspection.proofs.RuleLaws.{not-added, mms-count, goose-count, sv-count}
 
 pub results-not-truncated : ResultsNotTruncated
 results-not-truncated m = (λ f. mms-inspects m f .few, λ f. goose-inspects m f .few, λ f. sv-inspects m f .few, λ octets time. raw-inspects m octets time .few)
@@ -95,10 +97,6 @@ counts-after m (c ∷ calls) h = counts-after (called m c) calls (counts-called 
 pub rule-counts-hold : RuleCountsHold
 rule-counts-hold strict calls = counts-after (newMonitor strict) calls (no-rules (newSettings strict))
 
-pub refusal-numbers : RefusalNumbers
-refusal-numbers count len =
-    (λ h. ap addedNumber (list-full count len h), λ h l. ap addedNumber (name-long count len h l), λ h l. ap addedNumber (rule-fits count len h l))
-
 -- ---- totals and alert numbers
 
 -- a number of the monitor that each call adds to, and a reset sets to the first
@@ -136,6 +134,10 @@ alert-numbers-consecutive m calls z h = (
 
 -- ---- refused calls
 
+pub refusal-numbers : RefusalNumbers
+unfolding mmsAddedOn gooseAddedOn svAddedOn mmsAdded gooseAdded svAdded
+refusal-numbers m = (λ mask on rate. add-numbers _ _, λ address name. add-numbers _ _, λ address svid rate. add-numbers _ _)
+
 -- the answer is the decoder's
 parsed-answer : (m : Monitor) (a : Parsed) (f : SvFrame) → a ≡ rawInspected m a f .answer .answer
 parsed-answer m parsed.Frame f = refl
@@ -146,6 +148,12 @@ module _ (m : Monitor) (octets : List ℕ) (time : ℕ) (e : VsError) (h : inspe
   unfolding inspectRawSv
   unreadable =
       ap (λ (a : Parsed). rawInspected m a (svFrame octets time .frame)) (parsed-answer m (svFrame octets time .answer) (svFrame octets time .frame) ∙ h)
+
+pub raw-refusals : RawRefusals
+unfolding inspectRawSv
+raw-refusals m octets time =
+    let p = svFrame octets time in
+    rw (← parsed-answer m (p .answer) (p .frame)) (sv-answers octets time)
 
 pub refused-changes-nothing : RefusedChangesNothing
 unfolding mmsAddedOn gooseAddedOn svAddedOn mmsAdded gooseAdded svAdded

@@ -6,6 +6,7 @@ pub mod StageLaws
 pub mod SizeLaws
 pub mod CheckLaws
 pub mod ReportLaws
+pub mod RowLaws
 pub mod SettingLaws
 pub mod RuleLaws
 pub mod CallLaws

@@ -1,4 +1,4 @@
--- Laws of the add calls: what a call's tests tell of its answer, and how many rules it leaves.
+-- Laws of the add calls: what a refused one leaves, and how many rules one leaves.
 use Prim.Native.Nat.{ℕ, _+_, _≤_, _<_}
 use mathlib.Core.Bool.{Bool}
 use mathlib.Core.List.{List}
@@ -6,37 +6,19 @@ use mathlib.Core.Logic.{by-cases}
 use mathlib.Core.Path.{_≡_, ap}
 use native.Mathlib.Decide.{decLt}
 use native.Mathlib.Omega.{arith}
-use borrow.Author.Tests.{lt-ltb, le-ltb, le-leb, lt-leb}
 use lib.ListN.{length, getD, set, length-set, List·getD-eq-default}
 use lib.Seq.{getD-set-same}
 use Rattle.records.specs.declared.error.VsError.{VsError}
-use Rattle.records.specs.declared.error.VsError.the-variants.{ResourceExhausted, InvalidInput}
 use Rattle.tables.specs.Column.{wordSet}
 use Rattle.tables.specs.Named.{keyStored}
 use Rattle.checks.specs.declared.rules.Added.{Added}
 use Rattle.checks.specs.declared.rules.Added.the-variants.{Rule, Error}
+use Rattle.checks.proofs.RuleLaws.{list-full}
 use Rattle.checks.specs.GoosePublisher.{goosePublisherCount, withGoosePublisher, gooseAdded}
 use Rattle.checks.specs.Keys.{flagWord, plainKey}
 use Rattle.checks.specs.MmsRule.{mmsRuleCount, withMmsRule, mmsAdded}
 use Rattle.checks.specs.Rules.{ruleCount, addAnswer, ifAdded}
 use Rattle.checks.specs.SvPublisher.{svPublisherCount, withSvPublisher, svAdded}
-
--- ---- the answer: a full list, a long name, and neither
-
-module _ (count len : ℕ) where
-  pub list-full : 16 ≤ count → addAnswer count len ≡ Error ResourceExhausted
-  unfolding addAnswer
-  list-full h = rw (le-ltb count 16 h)
-
-  pub name-long : count < 16 → 64 < len → addAnswer count len ≡ Error InvalidInput
-  unfolding addAnswer
-  name-long h l = rw (lt-ltb count 16 h, lt-leb len 64 l)
-
-  pub rule-fits : count < 16 → len ≤ 64 → addAnswer count len ≡ Rule
-  unfolding addAnswer
-  rule-fits h l = rw (lt-ltb count 16 h, le-leb len 64 l)
-
--- ---- what it leaves
 
 -- a refused call leaves the list that was
 pub not-added : {A : Type 0} (put : List ℕ → A) (new old : List ℕ) (answer : Added) (e : VsError) → answer ≡ Error e → put (ifAdded answer new old) ≡ put old

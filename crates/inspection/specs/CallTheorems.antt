@@ -2,7 +2,6 @@
 use Prim.Native.Nat.{ℕ, zero, suc, _+_, _-_, _<_, _≤_, _%_, _^_, min}
 use mathlib.Core.Bool.{Bool, false}
 use mathlib.Core.List.{List, [], _∷_, _++_, map}
-use mathlib.Core.Option.{Option, none, some}
 use mathlib.Core.Path.{_≡_}
 use lib.ListN.{length, take}
 use Rattle.records.specs.declared.alert.CodedAlert.{CodedAlert}
@@ -12,14 +11,13 @@ use Rattle.records.specs.declared.frame.GooseFrame.{GooseFrame}
 use Rattle.records.specs.declared.frame.SvFrame.{SvFrame}
 use Rattle.records.specs.declared.result.InspectResult.{InspectResult}
 use Rattle.records.specs.Alert.{sourceSv}
-use Rattle.records.specs.Error.{errorNumber}
 use Rattle.records.specs.Result.{cleanResult}
+use Rattle.records.specs.Row.{ValuesOr}
 use Rattle.wire.specs.declared.sv.Parsed.{Parsed}
 use Rattle.wire.specs.declared.sv.Parsed.the-variants as parsed
-use Rattle.wire.specs.Sv.{svFrame}
-use Rattle.checks.specs.declared.rules.Added.{Added}
+use Rattle.wire.specs.Sv.{parsedRow, svFrame}
 use Rattle.checks.specs.declared.rules.Added.the-variants as added
-use Rattle.checks.specs.Rules.{addAnswer}
+use Rattle.checks.specs.Rules.{AddNumbers}
 use Rattle.checks.specs.GoosePublisher.{goosePublisherCount}
 use Rattle.checks.specs.MmsRule.{mmsRuleCount}
 use Rattle.checks.specs.SvPublisher.{svPublisherCount}
@@ -66,19 +64,6 @@ pub record AtMost16 (m : Monitor) : Type 0 where
 -- "At most 16 MMS rules, 16 GOOSE and 16 SV publishers": no calls lead to more
 abbrev pub RuleCountsHold : Type 0
 RuleCountsHold = (strict : Bool) (calls : List Call) → AtMost16 (afterCalls (newMonitor strict) calls)
-
--- the number of an add call's error, none where the rule was added
-abbrev pub addedNumber : Added → Option ℕ
-addedNumber added.Rule = none
-addedNumber (added.Error e) = some (errorNumber e)
-
--- refusals 1 and 2 by their numbers: 6 on 16 rules, then 9 for a name over 64 octets, else added
-abbrev pub RefusalNumbers : Type 0
-RefusalNumbers =
-    (count nameLength : ℕ)
-    → (16 ≤ count → addedNumber (addAnswer count nameLength) ≡ some 6)
-    × (count < 16 → 64 < nameLength → addedNumber (addAnswer count nameLength) ≡ some 9)
-    × (count < 16 → nameLength ≤ 64 → addedNumber (addAnswer count nameLength) ≡ none)
 
 -- ---- alerts of a call
 
@@ -203,6 +188,19 @@ pub data AnsweredByError (m : Monitor) : Call → Type 0 where
       → AnsweredByError m (setting (newSvPublisher mac svid rate))
   rawFrameError : (octets : List ℕ) (time : ℕ) (e : VsError) → inspectRawSv m octets time .answer .answer ≡ parsed.Error e
       → AnsweredByError m (rawSv octets time)
+
+-- refusals 1 and 2 by their numbers, of each add call: 6 on 16 rules, then 9 for a name over 64 octets, else added. An MMS rule has no name
+abbrev pub RefusalNumbers : Type 0
+RefusalNumbers =
+    (m : Monitor)
+    → ((mask : ℕ) (on : Bool) (rate : ℕ) → AddNumbers (mmsRuleCount (m .«mms_rules»)) 0 (mmsAddedOn m mask on rate .answer))
+    × ((address : ℕ) (name : List ℕ) → AddNumbers (goosePublisherCount (m .«goose_publishers»)) (length name) (gooseAddedOn m address name .answer))
+    × ((address : ℕ) (svid : List ℕ) (rate : ℕ)
+    → AddNumbers (svPublisherCount (m .«sv_publishers»)) (length svid) (svAddedOn m address svid rate .answer))
+
+-- refusal 3 by its number: a raw frame is read, or the error is 9
+abbrev pub RawRefusals : Type 0
+RawRefusals = (m : Monitor) (octets : List ℕ) (time : ℕ) → ValuesOr 9 (parsedRow (inspectRawSv m octets time .answer .answer))
 
 -- refusals 1 to 3: "changes nothing", "no frame"
 abbrev pub RefusedChangesNothing : Type 0

@@ -3,12 +3,11 @@ use Prim.Native.Nat.{ℕ}
 use mathlib.Core.List.{List, [], _∷_, _++_}
 use Rattle.records.specs.Points.{Point, recordsPoints}
 use Rattle.wire.specs.Points.{wirePoints}
-use Rattle.checks.specs.SvSeq.{countOutcome, outcomeNumber, outcomeGap}
+use Rattle.checks.specs.SvSeq.{countOutcome, outcomeRow}
 
 -- a count and the next one as a row: the outcome's number and its gap
 abbrev pub countPoint : ℕ → ℕ → ℕ → ℕ → Point
-countPoint c n number gap =
-    record { computed = outcomeNumber (countOutcome c n) ∷ outcomeGap (countOutcome c n) ∷ []; expected = number ∷ gap ∷ [] }
+countPoint c n number gap = record { computed = outcomeRow (countOutcome c n); expected = number ∷ gap ∷ [] }
 
 -- the starred points of this crate: replay is 1, wrap 3, suspicious 4
 abbrev pub countPoints : List Point

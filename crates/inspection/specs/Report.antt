@@ -65,6 +65,36 @@ findingOf CountGap = refusal Medium SvRateAnomaly
 findingOf SuspiciousCount = notice Medium SvRateAnomaly
 findingOf RateMismatch = refusal Medium SvRateAnomaly
 
+-- the number of an alert in 01's list of refusals, the first of two; 0 for one that alone does not refuse
+abbrev pub refusalNumber : CheckAlert → ℕ
+refusalNumber Nothing = 0
+refusalNumber ServiceMasked = 4
+refusalNumber WriteRefused = 5
+refusalNumber OverRate = 7
+refusalNumber NoRule = 8
+refusalNumber ReservationsFull = 0
+refusalNumber TestBlocked = 9
+refusalNumber UnknownPublisher = 10
+refusalNumber BoundElsewhere = 11
+refusalNumber ClockAlert = 12
+refusalNumber GooseReplay = 13
+refusalNumber Retransmission = 0
+refusalNumber WrongIed = 14
+refusalNumber UnknownSvid = 15
+refusalNumber CountReplay = 18
+refusalNumber CountGap = 19
+refusalNumber SuspiciousCount = 0
+refusalNumber RateMismatch = 20
+
+-- an alert of a check as a row: the refusal's number, its severity and its code
+abbrev pub checkAlertRow : CheckAlert → List ℕ
+checkAlertRow a = refusalNumber a ∷ severityNumber (findingOf a .severity) ∷ codeNumber (findingOf a .code) ∷ []
+
+-- what the rules say as a row: 1 and the rate, or 0 and the alert
+abbrev pub ruleCheckRow : RuleCheck → List ℕ
+ruleCheckRow (Refused alert) = 0 ∷ checkAlertRow alert
+ruleCheckRow (Rate rate) = 1 ∷ rate ∷ []
+
 -- whether a check found nothing
 abbrev pub isNothing : CheckAlert → Bool
 isNothing a = eqb (codeNumber (findingOf a .code)) 0
