@@ -2,11 +2,11 @@
 use Prim.Native.Nat.{ℕ}
 use mathlib.Core.Bool.{Bool, not, cond}
 use lib.Dec.{eqb}
-use Rattle.records.specs.Error.{errorNumber}
+use lib.ListN.{getD}
 use Rattle.wire.specs.declared.sv.Parsed.{Parsed}
-use Rattle.wire.specs.declared.sv.Parsed.the-variants as parsed
+use Rattle.wire.specs.Sv.{parsedRow}
 use Rattle.checks.specs.declared.rules.Added.{Added}
-use Rattle.checks.specs.declared.rules.Added.the-variants as added
+use Rattle.checks.specs.Rules.{addedRow}
 
 -- a flag handed in: any number but 0 is true
 abbrev pub flagOf : ℕ → Bool
@@ -20,12 +20,10 @@ flagNumber b = cond b 1 0
 abbrev pub noError : ℕ
 noError = 255
 
--- the number of an add call's error, 255 where the rule was added
+-- the number of an add call's error, the second of its row; 255 where the rule was added
 abbrev pub addedError : Added → ℕ
-addedError added.Rule = noError
-addedError (added.Error e) = errorNumber e
+addedError answer = getD (addedRow answer) 1 noError
 
--- the number of a raw frame's error, 255 where the frame was read
+-- the number of a raw frame's error, the second of its row; 255 where the frame was read
 abbrev pub parsedError : Parsed → ℕ
-parsedError parsed.Frame = noError
-parsedError (parsed.Error e) = errorNumber e
+parsedError answer = getD (parsedRow answer) 1 noError
