@@ -3,7 +3,7 @@ use Prim.Native.Nat.{ℕ}
 use mathlib.Core.Bool.{Bool, true, false, _||_}
 use mathlib.Core.List.{List}
 use mathlib.Core.Logic.{inl, inr, ⊎-elim}
-use mathlib.Core.Path.{refl, ap}
+use mathlib.Core.Path.{_≡_, refl, ap}
 use lib.Dec.{eqb}
 use lib.ListN.{getD}
 use Rattle.records.proofs.Booleans.{cond-holds}
@@ -17,6 +17,7 @@ use Rattle.wire.specs.declared.header.Apdu.{Apdu}
 use Rattle.wire.specs.declared.header.Apdu.the-variants as apdu
 use Rattle.wire.specs.declared.number.Unsigned.{Unsigned}
 use Rattle.wire.specs.declared.number.Unsigned.the-variants as unsigned
+use Rattle.wire.specs.declared.sv.ParsedSv.{ParsedSv}
 use Rattle.wire.specs.Element.{lengthRow, elementRow, lengthOf, element, Elements, ended, unreadable, next}
 use Rattle.wire.specs.Header.{apduRow, header}
 use Rattle.wire.specs.Number.{unsignedRow, unsignedInt}
@@ -78,6 +79,10 @@ sv-refusals octets time = go (header 0x88BA octets .apdu)
     go : (a : Apdu) → FrameOr9 (headerFrame octets time (header 0x88BA octets .«src_mac») a)
     go (apdu.At start end) = apdu-read _ _ time
     go apdu.Refused = refused
+
+-- of what was read
+pub by-frame : (octets : List ℕ) (time : ℕ) {p : ParsedSv} → p ≡ svFrame octets time → (p ≡ svFrame octets time) × FrameOr9 p
+by-frame octets time e = (e, rw e (sv-refusals octets time))
 
 -- the answer alone
 pub sv-answers : (octets : List ℕ) (time : ℕ) → ValuesOr 9 (parsedRow (svFrame octets time .answer))

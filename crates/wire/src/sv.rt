@@ -5,6 +5,7 @@ ghost use mathlib.Core.Bool.{false};
 ghost use lib.ListN.{length};
 ghost use Rattle.records.specs.Name.{validLen};
 ghost use Rattle.wire.specs.Element.{elements, ended};
+ghost use Rattle.wire.specs.Refusals.{FrameOr9};
 ghost use Rattle.wire.specs.Sv.{fieldFits, overlaid, withField, refusedSv, fieldsFrom, noFields};
 ghost use Rattle.wire.specs.Sv.{refusedFields, goesOn, withElement, fieldsOn, apduFrame, svFrame};
 use crate::element::Element;
@@ -257,6 +258,7 @@ pub fn decode_sv_apdu(apdu: &[u8], src_mac: [u8; 6], timestamp_us: u64) -> Parse
 // The frame that some octets hold, taken at a time.
 pub fn parse_sv(bytes: &[u8], timestamp_us: u64) -> ParsedSv
     ensures { λ r. ⌜ r ≡ svFrame (now (bytes .entry)) «timestamp_us» ⌝ }
+    ensures numbers { λ r. ⌜ FrameOr9 r ⌝ }
 {
     let found = ethernet_header(bytes, ETHERTYPE_SV);
     let apdu = found.apdu;

@@ -10,7 +10,7 @@ returns c =
     let e = c .before .before in
     let p = e .before in
     let a = p .before .before .args in
-    raw-refused (monitorOf (a .m .now)) (a .octets .now) (a .timestamp-us) (p .parse-sv .ensures) (e .parsed-error .ensures) (c .enum-told2 .given .1)
+    raw-refused (monitorOf (a .m .now)) (a .octets .now) (a .timestamp-us) (p .parse-sv .ensures .0) (e .parsed-error .ensures) (c .enum-told2 .given .1)
 
 returns-2 : tie.Need-returns-2
 returns-2 c =
@@ -18,7 +18,7 @@ returns-2 c =
     let e = t .before .before in
     let p = e .before in
     let a = p .before .before .args in
-    raw-inspected (monitorOf (a .m .now)) (a .octets .now) (a .timestamp-us) (p .parse-sv .ensures) (e .parsed-error .ensures)
+    raw-inspected (monitorOf (a .m .now)) (a .octets .now) (a .timestamp-us) (p .parse-sv .ensures .0) (e .parsed-error .ensures)
     (t .enum-told .given .1) (c .sv-verdict-on .ensures)
 
 pub mokyndu-raw-sv-in-place-spec : {M : Type 1} → statement M

@@ -8,7 +8,7 @@ use Rattle.host.proofs.inspect.mokyndu_parse_sv.Tie as tie
 returns : tie.Need-returns
 returns c =
     let p = c .before .before in
-    (λ i. record { frame = p .parse-sv .result .frame; error = c .parsed-error .ensures i }) ∙ ap hostParsed (p .parse-sv .ensures)
+    (λ i. record { frame = p .parse-sv .result .frame; error = c .parsed-error .ensures i }) ∙ ap hostParsed (p .parse-sv .ensures .0)
 
 pub mokyndu-parse-sv-spec : {M : Type 1} → statement M
 mokyndu-parse-sv-spec = tie.close (tie.spec (λ c κs. search needs) (λ c κs. search needs) returns)

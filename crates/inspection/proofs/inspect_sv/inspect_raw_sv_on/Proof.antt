@@ -9,14 +9,14 @@ returns : tie.Need-returns
 returns c =
     let p = c .before .before .before in
     let a = p .before .before .args in
-    raw-unreadable (monitorOf (a .m .now)) (a .bytes .now) (a .timestamp-us) (p .parse-sv .ensures) (c .before .enum-told2 .given .1) (c .clean .ensures)
+    raw-unreadable (monitorOf (a .m .now)) (a .bytes .now) (a .timestamp-us) (p .parse-sv .ensures .0) (c .before .enum-told2 .given .1) (c .clean .ensures)
 
 returns-2 : tie.Need-returns-2
 returns-2 c =
     let e = c .before .before .before in
     let p = e .before .before in
     let a = p .before .before .args in
-    raw-read (monitorOf (a .m .now)) (a .bytes .now) (a .timestamp-us) (p .parse-sv .ensures) (e .enum-told .given .1) (c .inspect-sv-on .ensures)
+    raw-read (monitorOf (a .m .now)) (a .bytes .now) (a .timestamp-us) (p .parse-sv .ensures .0) (e .enum-told .given .1) (c .inspect-sv-on .ensures)
 
 pub inspect-raw-sv-on-spec : {M : Type 1} → statement M
 inspect-raw-sv-on-spec =

@@ -3,6 +3,7 @@ use mathlib.Core.Path.{sym, _∙_, ap}
 use Rattle.wire.specs.Sv.{svFrame}
 use Rattle.wire.specs.declared.header.Header.{Header}
 use Rattle.wire.proofs.HeaderLaws.{apdu-order}
+use Rattle.wire.proofs.RefusalsHold.{by-frame}
 use borrow.Author.Needs.{needs}
 use Rattle.wire.proofs.sv.parse_sv.Statement.{statement}
 use Rattle.wire.proofs.sv.parse_sv.Tie as tie
@@ -23,12 +24,13 @@ returns : tie.Need-returns
 unfolding svFrame
 returns c =
     let h = c .before .before .before in
-    c .refused-sv .ensures ∙ rw (sym (ap (λ (x : Header). x .apdu) (h .ethernet-header .ensures)) ∙ c .before .enum-told .given .1)
+    by-frame _ _ (c .refused-sv .ensures ∙ rw (sym (ap (λ (x : Header). x .apdu) (h .ethernet-header .ensures)) ∙ c .before .enum-told .given .1))
 
 sub-content : tie.Need-sub-content
 sub-content c =
     let h = c .before .before .before .before in
-    apdu-order 0x88BA (h .before .before .args .bytes .now) (sym (ap (λ (x : Header). x .apdu) (h .ethernet-header .ensures)) ∙ c .before .before .apdu .given .1)
+    apdu-order 0x88BA (h .before .before .args .bytes .now)
+    (sym (ap (λ (x : Header). x .apdu) (h .ethernet-header .ensures)) ∙ c .before .before .apdu .given .1)
 
 content-requires : tie.Need-content-requires
 content-requires c κs = search needs
@@ -40,12 +42,13 @@ returns-2 : tie.Need-returns-2
 unfolding svFrame
 returns-2 c =
     let h = c .before .before .before .before .before .before in
-    c .decode-sv-apdu .ensures
+    by-frame _ _
+    (c .decode-sv-apdu .ensures
     ∙ rw (
       sym (ap (λ (x : Header). x .apdu) (h .ethernet-header .ensures)) ∙ c .before .before .before .before .apdu .given .1,
       c .before .content .ensures,
       ap (λ (x : Header). x .«src_mac») (h .ethernet-header .ensures),
-    )
+    ))
 
 pub parse-sv-spec : {M : Type 1} → statement M
 parse-sv-spec =
