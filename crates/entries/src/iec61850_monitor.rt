@@ -2,6 +2,13 @@
 // value in and out. Each call is made on the words where they stand.
 ghost use mathlib.Core.Path.{_≡_};
 ghost use mathlib.Core.Bool.{true, false};
+ghost use lib.ListN.{length};
+ghost use Rattle.records.specs.Row.{ValuesOr};
+ghost use Rattle.wire.specs.Sv.{parsedRow};
+ghost use Rattle.checks.specs.GoosePublisher.{goosePublisherCount};
+ghost use Rattle.checks.specs.MmsRule.{mmsRuleCount};
+ghost use Rattle.checks.specs.Rules.{AddNumbers};
+ghost use Rattle.checks.specs.SvPublisher.{svPublisherCount};
 ghost use Rattle.monitor.specs.Monitor.{monitorOf};
 ghost use Rattle.monitor.specs.Parts.{mmsAddedOn, gooseAddedOn, svAddedOn};
 ghost use Rattle.monitor.specs.Reset.{newMonitor, resetMonitor};
@@ -119,6 +126,7 @@ impl Iec61850Monitor {
     ) -> Configured
         ensures { λ r. ⌜ record { monitor = monitorOf (r .monitor .words); answer = r .answer }
             ≡ mmsAddedOn (monitorOf (self .words)) «service_mask» «read_only» «max_rate_per_sec» ⌝ }
+        ensures numbers { λ r. ⌜ AddNumbers (mmsRuleCount (monitorOf (self .words) .«mms_rules»)) 0 (r .answer) ⌝ }
     {
         let mut out = self;
         let answer = add_mms_rule_on(&mut out.words, service_mask, read_only, max_rate_per_sec);
@@ -132,6 +140,8 @@ impl Iec61850Monitor {
     pub fn add_goose_publisher(self, src_mac: [u8; 6], go_cb_ref: &[u8]) -> Configured
         ensures { λ r. ⌜ record { monitor = monitorOf (r .monitor .words); answer = r .answer }
             ≡ gooseAddedOn (monitorOf (self .words)) (addressOf «src_mac») (now («go_cb_ref» .entry)) ⌝ }
+        ensures numbers { λ r. ⌜ AddNumbers (goosePublisherCount (monitorOf (self .words) .«goose_publishers»)) (length (now («go_cb_ref» .entry)))
+            (r .answer) ⌝ }
     {
         let mut out = self;
         let answer = add_goose_publisher_on(&mut out.words, address_of(src_mac), go_cb_ref);
@@ -150,6 +160,7 @@ impl Iec61850Monitor {
     ) -> Configured
         ensures { λ r. ⌜ record { monitor = monitorOf (r .monitor .words); answer = r .answer }
             ≡ svAddedOn (monitorOf (self .words)) (addressOf «src_mac») (now (svid .entry)) «expected_smp_rate» ⌝ }
+        ensures numbers { λ r. ⌜ AddNumbers (svPublisherCount (monitorOf (self .words) .«sv_publishers»)) (length (now (svid .entry))) (r .answer) ⌝ }
     {
         let mut out = self;
         let answer = add_sv_publisher_on(
@@ -279,6 +290,7 @@ impl Iec61850Monitor {
     pub fn inspect_raw_sv(self, bytes: &[u8], timestamp_us: u64) -> RawInspected
         ensures { λ r. ⌜ record { monitor = monitorOf (r .monitor .words); answer = r .raw }
             ≡ inspectRawSv (monitorOf (self .words)) (now (bytes .entry)) «timestamp_us» ⌝ }
+        ensures numbers { λ r. ⌜ ValuesOr 9 (parsedRow (r .raw .answer)) ⌝ }
     {
         let mut out = self;
         let raw = inspect_raw_sv_on(&mut out.words, bytes, timestamp_us);

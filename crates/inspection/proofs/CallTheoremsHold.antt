@@ -134,6 +134,12 @@ alert-numbers-consecutive m calls z h = (
 
 -- ---- refused calls
 
+-- an answer that equals a defined one, and what holds of that
+pub answer-has :
+    {A : Type 0} (P : A → Type 0) {m : Monitor} {answer : A} {s : After A}
+    → record { monitor = m; answer = answer } ≡ s → P (s .answer) → (record { monitor = m; answer = answer } ≡ s) × P answer
+answer-has {A = A} P e h = (e, rw (ap (λ (x : After A). x .answer) e) h)
+
 pub refusal-numbers : RefusalNumbers
 unfolding mmsAddedOn gooseAddedOn svAddedOn mmsAdded gooseAdded svAdded
 refusal-numbers m = (λ mask on rate. add-numbers _ _, λ address name. add-numbers _ _, λ address svid rate. add-numbers _ _)

@@ -7,7 +7,7 @@ use Rattle.host.proofs.setting.mokyndu_add_goose_publisher.Statement.{s
 use Rattle.host.proofs.setting.mokyndu_add_goose_publisher.Tie as tie
 
 returns : tie.Need-returns
-returns c = c .host-configured .ensures ∙ ap (answered addedError) (c .before .add-goose-publisher .ensures)
+returns c = c .host-configured .ensures ∙ ap (answered addedError) (c .before .add-goose-publisher .ensures .0)
 
 pub mokyndu-add-goose-publisher-spec : {M : Type 1} → statement M
 mokyndu-add-goose-publisher-spec = tie.close (tie.spec (λ c κs. search needs) (λ c κs. search needs) returns)

@@ -7,7 +7,7 @@ use Rattle.host.proofs.setting.mokyndu_add_mms_rule.Statement.{statemen
 use Rattle.host.proofs.setting.mokyndu_add_mms_rule.Tie as tie
 
 returns : tie.Need-returns
-returns c = c .host-configured .ensures ∙ ap (answered addedError) (c .before .add-mms-rule .ensures)
+returns c = c .host-configured .ensures ∙ ap (answered addedError) (c .before .add-mms-rule .ensures .0)
 
 pub mokyndu-add-mms-rule-spec : {M : Type 1} → statement M
 mokyndu-add-mms-rule-spec = tie.close (tie.spec (λ c κs. search needs) (λ c κs. search needs) returns)

@@ -7,7 +7,7 @@ use Rattle.host.proofs.setting.mokyndu_add_sv_publisher.Statement.{stat
 use Rattle.host.proofs.setting.mokyndu_add_sv_publisher.Tie as tie
 
 returns : tie.Need-returns
-returns c = c .host-configured .ensures ∙ ap (answered addedError) (c .before .add-sv-publisher .ensures)
+returns c = c .host-configured .ensures ∙ ap (answered addedError) (c .before .add-sv-publisher .ensures .0)
 
 pub mokyndu-add-sv-publisher-spec : {M : Type 1} → statement M
 mokyndu-add-sv-publisher-spec = tie.close (tie.spec (λ c κs. search needs) (λ c κs. search needs) returns)

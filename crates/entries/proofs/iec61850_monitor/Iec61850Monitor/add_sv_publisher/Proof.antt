@@ -2,6 +2,8 @@
 use Prim.Native.Nat.{ℕ}
 use mathlib.Core.Path.{ap, _∙_}
 use borrow.Author.Needs.{needs}
+use Rattle.checks.specs.Rules.{AddNumbers}
+use Rattle.inspection.proofs.CallTheoremsHold.{answer-has, refusal-numbers}
 use Rattle.monitor.specs.Parts.{svAddedOn}
 use Rattle.monitor.specs.Monitor.{monitorOf}
 use Rattle.entries.proofs.iec61850_monitor.Iec61850Monitor.add_sv_publisher.Statement.{statement}
@@ -11,8 +13,10 @@ returns : tie.Need-returns
 returns c =
     let k = c .before in
     let a = k .before .before .before .args in
-    c .add-sv-publisher-on .ensures
-    ∙ ap (λ (address : ℕ). svAddedOn (monitorOf (a .self .words)) address (a .svid .now) (a .expected-smp-rate)) (k .address-of .ensures)
+    answer-has (AddNumbers _ _)
+    (c .add-sv-publisher-on .ensures
+    ∙ ap (λ (address : ℕ). svAddedOn (monitorOf (a .self .words)) address (a .svid .now) (a .expected-smp-rate)) (k .address-of .ensures))
+    (refusal-numbers _ .2 _ _ _)
 
 pub add-sv-publisher-spec : {M : Type 1} → statement M
 add-sv-publisher-spec = tie.close (tie.spec (λ c κs. search needs) (λ c κs. search needs) returns)
