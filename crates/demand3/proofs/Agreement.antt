@@ -1,5 +1,5 @@
 -- The claim's words agree with the monitor's definitions: what is read of a frame, which frames reach a check, and what a frame leaves.
-use Prim.Native.Nat.{ℕ, _-_, _<_}
+use Prim.Native.Nat.{ℕ, _-_, _<_, _^_}
 use mathlib.Core.Bool.{Bool, true, false, _&&_, not, cond}
 use mathlib.Core.List.{List, [], _∷_, _++_}
 use mathlib.Core.Path.{_≡_, refl, sym, ap, _∙_}
@@ -7,7 +7,9 @@ use native.Mathlib.Decide.{ℕ-discrete, decLt}
 use native.Mathlib.Omega.{arith}
 use borrow.Author.Tests.{lt-ltb, le-ltb, le-leb, lt-leb, eq-eqb, ne-eqb}
 use lib.Dec.{eqb, leb}
-use lib.ListN.{length}
+use lib.ListN.{length, set, length-set}
+use lib.Seq.{getD-set-same}
+use Rattle.records.specs.declared.schedule.RetxSchedule.{RetxSchedule}
 use Rattle.records.specs.declared.frame.GooseFrame.{GooseFrame}
 use Rattle.records.specs.Decide.{decidePair, decideList}
 use Rattle.records.specs.Legal.{OctetArray, LegalGoose}
@@ -16,19 +18,20 @@ use Rattle.checks.specs.declared.sv_seq.SvSeqOutcome.the-variants.{Replay, Cycl
 use Rattle.checks.specs.SvSeq.{acrossWrap, countOutcome, isReplay}
 use Rattle.checks.specs.TimeField.{hasClock}
 use Rattle.monitor.specs.Monitor.{Monitor}
-use Rattle.monitor.specs.Settings.{blockTestFrames}
+use Rattle.checks.specs.Keys.{flagWord}
+use Rattle.monitor.specs.Settings.{blockTestFrames, retxEnforce, timeMaxForwardJump, setBlockTestFrames, setRetxSchedule, setTimeMaxForwardJump}
+use Rattle.inspection.specs.Calls.{blockTest, schedule, maxForwardJump, settingMade}
 use Rattle.inspection.specs.Address.{addressOf}
 use Rattle.inspection.specs.InspectGoose.{gooseNumbers, goosePair, blocked}
 use Rattle.inspection.specs.InspectSv.{svPair}
-use Rattle.demand3.specs.Demand3.{Inspection, goose, sv, Legal, Address, address, TimePair, StNumSqNum, clockReached, reaching, replaysCount}
+use Rattle.demand3.specs.Demand3.{Inspection, goose, sv, Legal, Address, address, TimePair, StNumSqNum, unlessAbsent, reaching, replaysCount}
 use Rattle.demand3.specs.Demand3.{replaysNumbers, pairAfter, unlessBlocked, latest16, rememberedLists}
 use Rattle.demand3.specs.Demand3 as claim
 use Rattle.demand3.proofs.LegalLaws.{LegalOne, legal-parts}
 use Rattle.demand3.proofs.MonitorTerms.{svReaches, gooseStreamOf, gooseReaches, ifClock, clockReaches, countAfter, numbersAfter, monitorLists}
 
--- ---- what is read of a frame
+-- ---- what is read of a frame: names, numbers and pairs agree by unfolding, addresses where they have six octets
 
--- an address of six octets
 pub address-agrees : (mac : List ℕ) → length mac ≡ 6 → address mac ≡ addressOf mac
 unfolding addressOf
 address-agrees (a ∷ b ∷ c ∷ d ∷ e ∷ f ∷ []) n = omega arith
@@ -74,7 +77,7 @@ count-after last new = ap (λ (b : Bool). cond b last new) (count-agrees last ne
 numbers-after : (last new : StNumSqNum) → claim.numbersAfter last new ≡ numbersAfter last new
 numbers-after last new = ap (λ (b : Bool). cond b last new) (numbers-agree last new)
 
--- either way the new pair is kept
+-- a clock keeps the new pair, which the tables store
 pair-after : (last new : TimePair) → pairAfter last new ≡ new
 pair-after last new = refl
 
@@ -86,30 +89,30 @@ swapped true false = refl
 swapped false true = refl
 swapped false false = refl
 
-clock-agrees : (mac : List ℕ) (pair : TimePair) → length mac ≡ 6 → clockReached (address mac) pair ≡ ifClock (addressOf mac) pair
+absent-agrees : {X : Type 0} (pair : TimePair) (l : List X) → unlessAbsent pair l ≡ cond (hasClock pair) l []
 unfolding hasClock
-clock-agrees mac pair n = rw (address-agrees mac n) (go (eqb (pair .0) 0 && eqb (pair .1) 0))
+absent-agrees {X} pair l = go (eqb (pair .0) 0 && eqb (pair .1) 0)
   where
-    kept : List (Address × TimePair)
-    kept = (addressOf mac, pair) ∷ []
-
-    go : (b : Bool) → cond b [] kept ≡ cond (not b) kept []
+    go : (b : Bool) → cond {A = List X} b [] l ≡ cond (not b) l []
     go true = refl
     go false = refl
 
+clock-agrees : (mac : List ℕ) (pair : TimePair) → length mac ≡ 6 → unlessAbsent pair ((address mac, pair) ∷ []) ≡ ifClock (addressOf mac) pair
+clock-agrees mac pair n = rw (address-agrees mac n) (absent-agrees pair ((addressOf mac, pair) ∷ []))
+
 module _ (m : Monitor) where
-  blocked-agrees : {X : Type 0} (f : GooseFrame) (l : List X) → unlessBlocked m f l ≡ cond (blocked m (f .test)) [] l
+  blocked-agrees : {X : Type 0} (f : GooseFrame) (l : List X) → unlessBlocked (blockTestFrames m) f l ≡ cond (blocked m (f .test)) [] l
   blocked-agrees f l = ap (λ (b : Bool). cond b [] l) (swapped (f .test) (blockTestFrames m))
 
-  goose-agrees : (x : Inspection) → LegalOne x → claim.gooseReaches m x ≡ gooseReaches m x
+  goose-agrees : (x : Inspection) → LegalOne x → claim.gooseReaches (blockTestFrames m) x ≡ gooseReaches m x
   unfolding LegalOne
   goose-agrees (goose f) g = rw (address-agrees (f .«src_mac») (g .source .size)) (blocked-agrees f ((gooseStreamOf f, gooseNumbers f) ∷ []))
   goose-agrees (sv f) g = refl
 
-  clocks-agree : (x : Inspection) → LegalOne x → claim.clockReaches m x ≡ clockReaches m x
+  clocks-agree : (x : Inspection) → LegalOne x → claim.clockReaches (blockTestFrames m) x ≡ clockReaches m x
   unfolding LegalOne
   clocks-agree (goose f) g =
-      blocked-agrees f (clockReached (address (f .«src_mac»)) (goosePair f))
+      blocked-agrees f (unlessAbsent (goosePair f) ((address (f .«src_mac»), goosePair f) ∷ []))
       ∙ ap (cond (blocked m (f .test)) []) (clock-agrees (f .«src_mac») (goosePair f) (g .source .size))
   clocks-agree (sv f) g = clock-agrees (f .«src_mac») (svPair f) (g .source .size)
 
@@ -120,14 +123,35 @@ reaching-agrees r r′ e (x ∷ h) g = let p = legal-parts x h g in λ i. e x (p
 
 -- ---- the lists that a history leaves
 
-pub lists-agree : (m : Monitor) (h : List Inspection) → Legal h → rememberedLists m h ≡ monitorLists m h
+pub lists-agree : (m : Monitor) (h : List Inspection) → Legal h → rememberedLists (blockTestFrames m) h ≡ monitorLists m h
 lists-agree m h g =
     λ i. record {
       svStreams = latest16 (decideList ℕ-discrete) (λ last new. count-after last new i) (reaching svReaches h);
       gooseStreams =
           latest16 (decidePair ℕ-discrete ℕ-discrete) (λ last new. numbers-after last new i)
-          (reaching-agrees (claim.gooseReaches m) (gooseReaches m) (goose-agrees m) h g i);
+          (reaching-agrees (claim.gooseReaches (blockTestFrames m)) (gooseReaches m) (goose-agrees m) h g i);
       clocks =
           latest16 ℕ-discrete (λ last new. pair-after last new i)
-          (reaching-agrees (claim.clockReaches m) (clockReaches m) (clocks-agree m) h g i);
+          (reaching-agrees (claim.clockReaches (blockTestFrames m)) (clockReaches m) (clocks-agree m) h g i);
     }
+
+-- ---- what the settings say is what the set calls made
+
+module _ (m : Monitor) (z : length (m .settings) ≡ 10) where
+  flag-read : (b : Bool) → not (eqb (flagWord b) 0) ≡ b
+  flag-read true = refl
+  flag-read false = refl
+
+  pub blocking-read : (b : Bool) → blockTestFrames (settingMade m (blockTest b)) ≡ b
+  unfolding setBlockTestFrames
+  blocking-read b = rw (getD-set-same (m .settings) 1 (flagWord b) 0 (omega arith)) (flag-read b)
+
+  pub enforcement-read : (s : RetxSchedule) (b : Bool) → retxEnforce (settingMade m (schedule s b)) ≡ b
+  unfolding setRetxSchedule
+  enforcement-read s b =
+      rw (getD-set-same (set (set (set (m .settings) 4 (s .«initial_us»)) 5 (s .«t_max_us»)) 6 (s .«tolerance_pct»)) 7 (flagWord b) 0 (simp length-set (omega arith)))
+      (flag-read b)
+
+  pub jump-read : (seconds : ℕ) → seconds < 2 ^ 32 → timeMaxForwardJump (settingMade m (maxForwardJump seconds)) ≡ seconds
+  unfolding setTimeMaxForwardJump
+  jump-read seconds h = rw (getD-set-same (m .settings) 8 seconds 0 (omega arith)) (omega arith)

@@ -40,7 +40,7 @@ use Rattle.demand3.proofs.PlainMonitor.{Plain, left as leftBy, answers-
 use Rattle.demand3.proofs.RememberedLaws.{names≟, pairs≟, touchSv, touchGoose, touchClock, listsAfter, moved, listAnswer, listAnswers}
 use Rattle.demand3.proofs.RememberedLaws.{remembered-lists, svid-legal, remembers-history, answers-lists, remembers-new}
 use Rattle.demand3.proofs.Remembering.{configured-tables, configured-free}
-use Rattle.demand3.proofs.ResetLaws.{setCalls, reset-configured}
+use Rattle.demand3.proofs.ResetLaws.{setCalls, reset-set}
 
 -- ---- inspections made of frames of keys
 
@@ -431,7 +431,7 @@ module _ (strict : Bool) (settings : List Setting) (p : Premises (configuredMoni
 
 unfoldable pub demand-3 : Demand3
 demand-3 strict settings p h h′ g g′ = record {
-  equal-lists-exactly-when-same-answers = (same, only (lists≟ (rememberedLists m h) (rememberedLists m h′)));
+  equal-lists-exactly-when-same-answers = (same, only (lists≟ (rememberedLists (blockTestFrames m) h) (rememberedLists (blockTestFrames m) h′)));
   unequal-lists-told-apart = distinguished strict settings p h h′ g g′;
 }
   where
@@ -448,6 +448,6 @@ demand-3 strict settings p h h′ g g′ = record {
     only (yes e) a = e
     only (no d) a = let f = distinguished strict settings p h h′ g g′ d in absurd (f .unequal (a (f .further) (f .legal)))
 
--- a reset monitor is a new one with its set calls made
+-- a reset monitor with settings made is a new one with its set calls and these made
 pub demand-3-after-reset : Demand3AfterReset
-demand-3-after-reset strict calls = subst DemandFrom (sym (reset-configured strict calls)) (demand-3 strict (setCalls calls))
+demand-3-after-reset strict calls settings = subst DemandFrom (sym (reset-set strict calls settings)) (demand-3 strict (setCalls calls ++ settings))

@@ -8,6 +8,7 @@ use native.Mathlib.Omega.{arith}
 use lib.ListN.{length, getD, replicate, length-replicate}
 use Rattle.records.specs.declared.frame.GooseFrame.{GooseFrame}
 use Rattle.records.specs.declared.frame.SvFrame.{SvFrame}
+use Rattle.records.specs.Alert.{denies}
 use Rattle.records.specs.Decide.{decidePair, decideList}
 use Rattle.records.specs.Hash.{fnv1a, hashFrom, hashStep}
 use Rattle.records.specs.Legal.{LegalGoose, LegalSv, OctetArray}
@@ -16,13 +17,12 @@ use Rattle.tables.specs.Column.{zeroWords}
 use Rattle.checks.specs.GooseSeq.{replays}
 use Rattle.checks.specs.SvSeq.{countOutcome, isReplay}
 use Rattle.checks.specs.TimeField.{hasClock, earlier}
-use Rattle.monitor.specs.Monitor.{Monitor}
 use Rattle.monitor.specs.Parts.{mmsAddedOn}
 use Rattle.monitor.specs.Settings.{setBlockTestFrames, setSvMaxSmpCntGap, setTimeMaxForwardJump}
 use Rattle.inspection.specs.Address.{addressOf}
 use Rattle.inspection.specs.Calls.{Setting, blockTest, maxSmpCntGap, maxForwardJump, newMmsRule, configuredMonitor}
 use Rattle.inspection.specs.InspectSv.{countFindings}
-use Rattle.demand3.specs.Demand3.{Inspection, goose, sv, Legal, answers, rememberedLists, RememberedLists, Premises, Distinguished}
+use Rattle.demand3.specs.Demand3.{Inspection, goose, sv, Legal, answers, rememberedLists, RememberedLists, Premises, EqualLists, SameAnswers, Distinguished}
 use Rattle.records.proofs.Distinguish.{distinguish-histories, distinguish, distinguished as distinguishedFrom}
 use Rattle.records.proofs.KeyedLists.{difference, absent-key}
 use Rattle.records.proofs.Lists.{getD-constant}
@@ -33,7 +33,7 @@ use Rattle.demand3.proofs.Demand3Holds.{answers-remembered, demand-3, d
 
 -- ---- frames and settings
 
--- an SV frame of an svID of one octet, its address, count and time
+-- an SV frame of an svID of one octet, the first octet of its address, its count and its time
 frame : ℕ → ℕ → ℕ → ℕ → ℕ → SvFrame
 frame svid octet count seconds fraction = record {
   «src_mac» = octet ∷ replicate 5 0;
@@ -48,7 +48,7 @@ frame svid octet count seconds fraction = record {
   «t_fraction_of_second» = fraction;
 }
 
--- a GOOSE frame of a control block of one octet, its address, numbers, test flag and seconds
+-- a GOOSE frame of control block G: the first octet of its address, its numbers, test flag and seconds
 message : ℕ → ℕ → ℕ → Bool → ℕ → GooseFrame
 message octet state sequence test seconds = record {
   «src_mac» = octet ∷ replicate 5 0;
@@ -102,7 +102,7 @@ legal-message octet state sequence test seconds a b c d = record {
   fraction = omega arith;
 }
 
--- a strict monitor with a rule and limits
+-- a rule, test frames blocked, a gap of 10 counts and a jump of 3600 seconds at most; the monitor is strict where it is made with `true`
 settings : List Setting
 settings = newMmsRule 0xFFFF true 5 ∷ blockTest true ∷ maxSmpCntGap 10 ∷ maxForwardJump 3600 ∷ []
 
@@ -110,41 +110,67 @@ premises : Premises (configuredMonitor true settings)
 unfolding settings setBlockTestFrames setSvMaxSmpCntGap setTimeMaxForwardJump mmsAddedOn zeroWords tabulate
 premises = record { no-goose-publisher = refl; no-sv-publisher = refl; not-enforced = refl; jump-limit = (omega arith, omega arith) }
 
--- ---- a replay leaves the count, and is a last frame: 400 after 500, then another stream, then the first again
+-- ---- 500, another stream, then 400: a replay, which leaves 500 and is its stream's last frame
 
 replay-history : List Inspection
 replay-history = sv (frame 65 1 500 0 0) ∷ sv (frame 66 1 7 0 0) ∷ sv (frame 65 1 400 9 0) ∷ []
 
-replay-lists : (m : Monitor) → rememberedLists m replay-history ≡ record {
+replay-lists : (blocking : Bool) → rememberedLists blocking replay-history ≡ record {
   svStreams = (65 ∷ [], 500) ∷ (66 ∷ [], 7) ∷ [];
   gooseStreams = [];
   clocks = (1 * 2 ^ 40, (9, 0)) ∷ [];
 }
 unfolding replay-history frame ℕ-discrete decideList decidePair
-replay-lists m = refl
+replay-lists blocking = refl
 
 -- a history that leaves the same, without the replay
 same-history : List Inspection
 same-history = sv (frame 66 1 7 0 0) ∷ sv (frame 65 1 500 9 0) ∷ []
 
-same-lists : (m : Monitor) → rememberedLists m replay-history ≡ rememberedLists m same-history
+same-lists : (blocking : Bool) → rememberedLists blocking replay-history ≡ rememberedLists blocking same-history
 unfolding replay-history same-history frame ℕ-discrete decideList decidePair
-same-lists m = refl
+same-lists blocking = refl
 
--- ---- a GOOSE replay, a blocked test frame, and a clock that GOOSE and SV share
+-- so every further list gets the same answers after both
+replay-legal : Legal replay-history
+unfolding replay-history
+replay-legal =
+    let first = legal-frame 65 1 500 0 0 (omega arith) (omega arith) (omega arith) (omega arith) (omega arith) in
+    let other = legal-frame 66 1 7 0 0 (omega arith) (omega arith) (omega arith) (omega arith) (omega arith) in
+    let replay = legal-frame 65 1 400 9 0 (omega arith) (omega arith) (omega arith) (omega arith) (omega arith) in
+    (first, (other, (replay, tt)))
 
--- the second is a replay and has no clock, the third is a test frame while blocked, the fourth's clock is behind that of the first
+same-legal : Legal same-history
+unfolding same-history
+same-legal =
+    let other = legal-frame 66 1 7 0 0 (omega arith) (omega arith) (omega arith) (omega arith) (omega arith) in
+    let first = legal-frame 65 1 500 9 0 (omega arith) (omega arith) (omega arith) (omega arith) (omega arith) in
+    (other, (first, tt))
+
+same-answers : SameAnswers (configuredMonitor true settings) replay-history same-history
+same-answers =
+    demand-3 true settings premises replay-history same-history replay-legal same-legal .equal-lists-exactly-when-same-answers .0 (same-lists _)
+
+-- ---- a GOOSE replay, a blocked test frame, a clock that GOOSE and SV share, and the limits of counts and clocks
+
 station-history : List Inspection
 station-history =
-    goose (message 1 5 2 false 100) ∷ goose (message 1 5 2 false 0) ∷ goose (message 1 9 0 true 500) ∷ sv (frame 65 1 500 90 0) ∷ []
+    goose (message 1 5 2 false 100)  -- stored
+    ∷ goose (message 1 5 2 false 0)  -- a replay, without a clock
+    ∷ goose (message 1 9 0 true 500)  -- a test frame, which is blocked
+    ∷ sv (frame 65 1 500 90 0)  -- its clock is behind that of the first
+    ∷ sv (frame 65 1 500 90 0)  -- a replay
+    ∷ sv (frame 65 1 511 3691 0)  -- 11 counts and 3601 seconds ahead
+    ∷ sv (frame 65 1 40000 3691 0)  -- far ahead
+    ∷ sv (frame 65 1 7233 3691 0)  -- suspicious
+    ∷ []
 
-station-lists : rememberedLists (configuredMonitor true settings) station-history ≡ record {
-  svStreams = (65 ∷ [], 500) ∷ [];
+station-lists : rememberedLists true station-history ≡ record {
+  svStreams = (65 ∷ [], 7233) ∷ [];
   gooseStreams = ((1 * 2 ^ 40, 0xC20BF3A6), (5, 2)) ∷ [];
-  clocks = (1 * 2 ^ 40, (90, 0)) ∷ [];
+  clocks = (1 * 2 ^ 40, (3691, 0)) ∷ [];
 }
-unfolding station-history message frame settings setBlockTestFrames setSvMaxSmpCntGap setTimeMaxForwardJump mmsAddedOn
-    ℕ-discrete decideList decidePair fnv1a hashFrom hashStep
+unfolding station-history message frame ℕ-discrete decideList decidePair fnv1a hashFrom hashStep
 station-lists = refl
 
 station-legal : Legal station-history
@@ -153,14 +179,17 @@ station-legal =
     let stored = legal-message 1 5 2 false 100 (omega arith) (omega arith) (omega arith) (omega arith) in
     let replay = legal-message 1 5 2 false 0 (omega arith) (omega arith) (omega arith) (omega arith) in
     let test = legal-message 1 9 0 true 500 (omega arith) (omega arith) (omega arith) (omega arith) in
-    let sample = legal-frame 65 1 500 90 0 (omega arith) (omega arith) (omega arith) (omega arith) (omega arith) in
-    (stored, (replay, (test, (sample, tt))))
+    let behind = legal-frame 65 1 500 90 0 (omega arith) (omega arith) (omega arith) (omega arith) (omega arith) in
+    let ahead = legal-frame 65 1 511 3691 0 (omega arith) (omega arith) (omega arith) (omega arith) (omega arith) in
+    let far = legal-frame 65 1 40000 3691 0 (omega arith) (omega arith) (omega arith) (omega arith) (omega arith) in
+    let suspicious = legal-frame 65 1 7233 3691 0 (omega arith) (omega arith) (omega arith) (omega arith) (omega arith) in
+    (stored, (replay, (test, (behind, (behind, (ahead, (far, (suspicious, tt))))))))
 
--- what these four are answered: allowed, 3 replay, 6 blocked, 31 clock
+-- a suspicious count alone does not refuse
 station-answers : answers (configuredMonitor true settings) station-history
-    ≡ (true, []) ∷ (false, 3 ∷ []) ∷ (false, 6 ∷ []) ∷ (false, 31 ∷ []) ∷ []
+    ≡ (true, []) ∷ (false, 3 ∷ []) ∷ (false, 6 ∷ []) ∷ (false, 31 ∷ []) ∷ (false, 26 ∷ []) ∷ (false, 31 ∷ 27 ∷ []) ∷ (false, 27 ∷ []) ∷ (true, 27 ∷ []) ∷ []
 unfolding station-history message frame settings setBlockTestFrames setSvMaxSmpCntGap setTimeMaxForwardJump mmsAddedOn
-    ℕ-discrete decideList decidePair fnv1a hashFrom hashStep replays countFindings hasClock earlier addressOf
+    ℕ-discrete decideList decidePair fnv1a hashFrom hashStep replays countOutcome isReplay countFindings hasClock earlier addressOf denies
 station-answers = answers-remembered true settings premises [] station-history tt station-legal
 
 -- ---- seventeen streams, of which the first is forgotten; it comes again, with a lower count, afresh, and the second is forgotten
@@ -173,13 +202,13 @@ entries : ℕ → ℕ → List (List ℕ × ℕ)
 entries first zero = []
 entries first (suc n) = ((first + n) ∷ [], 500) ∷ entries first n
 
-eviction-lists : (m : Monitor) → rememberedLists m (streams 17 ++ sv (frame 0 1 400 0 0) ∷ []) ≡ record {
+eviction-lists : (blocking : Bool) → rememberedLists blocking (streams 17 ++ sv (frame 0 1 400 0 0) ∷ []) ≡ record {
   svStreams = (0 ∷ [], 400) ∷ entries 2 15;
   gooseStreams = [];
   clocks = [];
 }
 unfolding streams entries frame ℕ-discrete decideList decidePair
-eviction-lists m = refl
+eviction-lists blocking = refl
 
 -- ---- eleven streams, of which the first to come differs in its count
 
@@ -201,7 +230,7 @@ legal-counted count n h l = (legal-frame 99 1 count 0 0 (omega arith) (omega ari
 lastCount : RememberedLists → ℕ
 lastCount l = getD (map (λ (e : List ℕ × ℕ). e .1) (l .svStreams)) 10 0
 
-different : ¬ (rememberedLists (configuredMonitor true settings) (counted 500 10) ≡ rememberedLists (configuredMonitor true settings) (counted 501 10))
+different : ¬ EqualLists (configuredMonitor true settings) (counted 500 10) (counted 501 10)
 unfolding counted streams frame lastCount ℕ-discrete decideList decidePair
 different e = let z : _≡_ {A = ℕ} 500 501 = ap lastCount e in omega arith
 
@@ -211,7 +240,7 @@ instance =
     demand-3 true settings premises (counted 500 10) (counted 501 10) (legal-counted 500 10 (omega arith) (omega arith))
     (legal-counted 501 10 (omega arith) (omega arith)) .unequal-lists-told-apart different
 
--- five streams that neither history has, then the one that differs, with the larger count
+-- five streams that neither history has, then the one that differs, with the larger count: the theorem's list, not the shortest
 instance-further : instance .further
     ≡ sv (frame 32 0 0 0 0) ∷ sv (frame 31 0 0 0 0) ∷ sv (frame 30 0 0 0 0) ∷ sv (frame 29 0 0 0 0) ∷ sv (frame 28 0 0 0 0) ∷ sv (frame 99 0 501 0 0) ∷ []
 unfolding instance demand-3 distinguished further-lists sv-further further-of made svInspection svFrameOf sv-separating padded tabulate
@@ -219,7 +248,7 @@ unfolding instance demand-3 distinguished further-lists sv-further further-of ma
     ℕ-discrete decLt countOutcome isReplay
 instance-further = refl
 
--- ---- the smallest differences in the other two lists: a GOOSE stream against none, and a clock of (0, 1) against none
+-- ---- the other two lists: a GOOSE stream against none; and a clock of (0, 1) against none, which only the jump limit tells apart
 
 goose-instance : Distinguished (configuredMonitor true settings) (goose (message 0 1 0 false 0) ∷ []) []
 unfolding message settings setTimeMaxForwardJump setSvMaxSmpCntGap setBlockTestFrames mmsAddedOn

@@ -10,27 +10,27 @@ use Rattle.wire.proofs.SvLegal.{sv-legal}
 use Rattle.monitor.specs.Monitor.{Monitor}
 use Rattle.inspection.specs.Calls.{configuredMonitor}
 use Rattle.inspection.specs.InspectSv.{rawInspected, inspectRawSv}
-use Rattle.demand3.specs.Demand3.{Inspection, goose, sv, Legal, inspect, afterHistory, Answer, answerOf, answers, SameAnswers}
-use Rattle.demand3.specs.Demand3Mixed.{Arrival, decoded, raw, LegalArrivals, ifRead, inspectionOf, inspections, arrived, afterArrivals}
-use Rattle.demand3.specs.Demand3Mixed.{ifAnswered, answered, arrivalAnswers, SameArrivalAnswers, Demand3Mixed}
+use Rattle.demand3.specs.Demand3.{Inspection, goose, sv, Legal, inspect, afterHistory, Answer, answerOf, answers, SameAnswers, Distinguished}
+use Rattle.demand3.specs.Demand3Mixed.{Arrival, decoded, raw, LegalArrivals, ifRead, inspectionsOf, inspections, afterArrival, afterArrivals}
+use Rattle.demand3.specs.Demand3Mixed.{ifAnswered, answersTo, arrivalAnswers, SameArrivalAnswers, MixedDistinguished, Demand3Mixed}
 use Rattle.demand3.proofs.Demand3Holds.{demand-3}
 use Rattle.demand3.proofs.LegalLaws.{legal-append}
 
 -- ---- one arrival
 
-arrived-is : (m : Monitor) (x : Arrival) → arrived m x ≡ afterHistory m (inspectionOf x)
+arrival-is : (m : Monitor) (x : Arrival) → afterArrival m x ≡ afterHistory m (inspectionsOf x)
 unfolding inspectRawSv
-arrived-is m (decoded x) = refl
-arrived-is m (raw octets time) = go (svFrame octets time .answer) (svFrame octets time .frame)
+arrival-is m (decoded x) = refl
+arrival-is m (raw octets time) = go (svFrame octets time .answer) (svFrame octets time .frame)
   where
     go : (p : Parsed) (f : SvFrame) → rawInspected m p f .monitor ≡ afterHistory m (ifRead p f)
     go Frame f = refl
     go (Error e) f = refl
 
-answered-is : (m : Monitor) (x : Arrival) → answered m x ≡ answers m (inspectionOf x)
+answers-is : (m : Monitor) (x : Arrival) → answersTo m x ≡ answers m (inspectionsOf x)
 unfolding inspectRawSv
-answered-is m (decoded x) = refl
-answered-is m (raw octets time) = go (svFrame octets time .answer) (svFrame octets time .frame)
+answers-is m (decoded x) = refl
+answers-is m (raw octets time) = go (svFrame octets time .answer) (svFrame octets time .frame)
   where
     go : (p : Parsed) (f : SvFrame) → ifAnswered (rawInspected m p f .answer .answer) (answerOf (rawInspected m p f .answer .result)) ≡ answers m (ifRead p f)
     go Frame f = refl
@@ -45,22 +45,22 @@ answers-append m (x ∷ h) k = ap (λ (r : List Answer). answerOf (inspect m x .
 pub after-arrivals : (m : Monitor) (a : List Arrival) → afterArrivals m a ≡ afterHistory m (inspections a)
 after-arrivals m [] = refl
 after-arrivals m (x ∷ a) =
-    after-arrivals (arrived m x) a
-    ∙ ap (λ (n : Monitor). afterHistory n (inspections a)) (arrived-is m x)
-    ∙ sym (foldl-append (λ m x. inspect m x .monitor) m (inspectionOf x) (inspections a))
+    after-arrivals (afterArrival m x) a
+    ∙ ap (λ (n : Monitor). afterHistory n (inspections a)) (arrival-is m x)
+    ∙ sym (foldl-append (λ n x. inspect n x .monitor) m (inspectionsOf x) (inspections a))
 
 pub arrival-answers : (m : Monitor) (a : List Arrival) → arrivalAnswers m a ≡ answers m (inspections a)
 arrival-answers m [] = refl
 arrival-answers m (x ∷ a) =
-    (λ i. answered-is m x i ++ arrival-answers (arrived m x) a i)
-    ∙ ap (λ (n : Monitor). answers m (inspectionOf x) ++ answers n (inspections a)) (arrived-is m x)
-    ∙ sym (answers-append m (inspectionOf x) (inspections a))
+    (λ i. answers-is m x i ++ arrival-answers (afterArrival m x) a i)
+    ∙ ap (λ (n : Monitor). answers m (inspectionsOf x) ++ answers n (inspections a)) (arrival-is m x)
+    ∙ sym (answers-append m (inspectionsOf x) (inspections a))
 
 legal-inspections : (a : List Arrival) → LegalArrivals a → Legal (inspections a)
 legal-inspections [] g = tt
 legal-inspections (decoded x ∷ a) g = legal-append (x ∷ []) (inspections a) (g .0) (legal-inspections a (g .1))
 legal-inspections (raw octets time ∷ a) g =
-    legal-append (inspectionOf (raw octets time)) (inspections a)
+    legal-append (inspectionsOf (raw octets time)) (inspections a)
     (go (svFrame octets time .answer) (svFrame octets time .frame) (sv-legal octets time (g .0 .0) (g .0 .1))) (legal-inspections a (g .1))
   where
     go : (p : Parsed) (f : SvFrame) → LegalSv f → Legal (ifRead p f)
@@ -97,13 +97,20 @@ module _ (m : Monitor) (a a′ : List Arrival) where
       ∙ e (arrivals further) (legal-arrivals further g)
       ∙ answers-after a′ (arrivals further))
 
+  from-distinguished : Distinguished m (inspections a) (inspections a′) → MixedDistinguished m a a′
+  from-distinguished d = record {
+    further = d .further;
+    legal = d .legal;
+    short = d .short;
+    unequal = rw (← after-arrivals m a, ← after-arrivals m a′) at (d .unequal);
+  }
+
 pub demand-3-mixed : Demand3Mixed
 demand-3-mixed strict settings p a a′ g g′ =
     let m = configuredMonitor strict settings in
     let d = demand-3 strict settings p (inspections a) (inspections a′) (legal-inspections a g) (legal-inspections a′ g′) in
     let e = d .equal-lists-exactly-when-same-answers in
     record {
-      monitor-of-its-inspections = after-arrivals m a;
       equal-lists-exactly-when-same-answers = (λ q. from-inspections m a a′ (e .0 q), λ q. e .1 (to-inspections m a a′ q));
-      unequal-lists-told-apart = d .unequal-lists-told-apart;
+      unequal-lists-told-apart = λ n. from-distinguished m a a′ (d .unequal-lists-told-apart n);
     }

@@ -36,9 +36,9 @@ use Rattle.demand3.proofs.RememberedLaws.{names≟, pairs≟, replayed}
 abbrev pub Name : List ℕ → Type 0
 Name = LegalKey 0
 
--- an address
-abbrev pub Address : ℕ → Type 0
-Address address = address < 2 ^ 48
+-- the number of an address
+abbrev pub AddressNumber : ℕ → Type 0
+AddressNumber address = address < 2 ^ 48
 
 -- the hash of a name
 pub record Hash (hash : ℕ) : Type 0 where
@@ -181,7 +181,7 @@ goose-known (some w) i h l = cond-holds Numbers (replays w i) {x = w} {y = i} h 
 
 abbrev pub gooseObservable : Observable pairs≟ 16 (λ n. n) numbersAfter gooseAnswer
 gooseObservable = record {
-  Key = λ k. Address (k .0) × Hash (k .1);
+  Key = λ k. AddressNumber (k .0) × Hash (k .1);
   Input = Numbers;
   Known = Holding Numbers;
   known-none = tt;
@@ -264,7 +264,7 @@ module _ (limit : ℕ) (range : JumpLimit limit) where
 
   abbrev pub clockObservable : Observable ℕ-discrete 16 (λ p. p) (λ kept p. p) (clockAlert limit)
   clockObservable = record {
-    Key = Address;
+    Key = AddressNumber;
     Input = Pair;
     Known = Holding Pair;
     known-none = tt;

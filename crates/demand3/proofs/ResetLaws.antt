@@ -1,4 +1,4 @@
--- A reset monitor is a new one with its set calls made: a reset keeps the settings, and no other call writes them.
+-- A reset monitor is a new one with its set calls made: a reset keeps the settings, and only set calls write them.
 use Prim.Native.Nat.{ℕ}
 use mathlib.Core.Bool.{Bool}
 use mathlib.Core.List.{List, [], _∷_, _++_, foldl, foldl-append}
@@ -38,7 +38,7 @@ setCalls [] = []
 setCalls (c ∷ calls) = setOf c ++ setCalls calls
 
 module _ (m : Monitor) (s : List ℕ) (e : m .settings ≡ s) where
-  -- the settings after a call
+  -- a new monitor with the settings after a call
   set-kept : (x : Setting) → freshWith (settingMade m x .settings) ≡ foldl settingMade (freshWith s) (ifSet x)
   unfolding setMmsServiceMask setMmsReadOnly setBlockTestFrames setSvMaxSmpCntGap setRetxSchedule setTimeMaxForwardJump mmsAddedOn gooseAddedOn svAddedOn
   set-kept (serviceMask mask) = ap (λ (z : List ℕ). freshWith (withServiceMask z mask)) e
@@ -70,3 +70,10 @@ calls-kept m (c ∷ calls) =
 pub reset-configured : (strict : Bool) (calls : List Call) → resetMonitor (afterCalls (newMonitor strict) calls) ≡ configuredMonitor strict (setCalls calls)
 unfolding resetMonitor
 reset-configured strict calls = calls-kept (newMonitor strict) calls
+
+-- and with settings made after the reset
+pub reset-set : (strict : Bool) (calls : List Call) (settings : List Setting)
+    → foldl settingMade (resetMonitor (afterCalls (newMonitor strict) calls)) settings ≡ configuredMonitor strict (setCalls calls ++ settings)
+reset-set strict calls settings =
+    ap (λ (m : Monitor). foldl settingMade m settings) (reset-configured strict calls)
+    ∙ sym (foldl-append settingMade (newMonitor strict) (setCalls calls) settings)

@@ -1,6 +1,7 @@
 -- Demand 3 (01, "Remembered tables"): two histories leave equal remembered lists exactly when every further list of inspections gets equal answers.
 -- A history has its earliest frame first. A remembered list has its latest frame first, and so has the past that `remembered` reads: `latest16` turns
--- the frames round. What is read of a frame is said here in 01's words; that the monitor reads the same is proved (proofs/Agreement.antt).
+-- the frames round. What is read of a frame is said here in 01's words; that the monitor reads the same is proved (proofs/Agreement.antt). Of the
+-- monitor the claim uses its inspections, three settings and the numbers of publishers; of the port besides FNV-1a and the numbers of codes.
 use Prim.Native.Nat.{ℕ, min, _+_, _*_, _-_, _≤_}
 use mathlib.Core.Bool.{Bool, false, _&&_, _||_, cond}
 use mathlib.Core.List.{List, [], _∷_, _++_, map, foldl, reverse}
@@ -24,7 +25,7 @@ use Rattle.monitor.specs.Monitor.{Monitor}
 use Rattle.monitor.specs.Parts.{After}
 use Rattle.monitor.specs.Reset.{newMonitor, resetMonitor}
 use Rattle.monitor.specs.Settings.{blockTestFrames, retxEnforce, timeMaxForwardJump}
-use Rattle.inspection.specs.Calls.{Call, Setting, configuredMonitor, afterCalls}
+use Rattle.inspection.specs.Calls.{Call, Setting, settingMade, configuredMonitor, afterCalls}
 use Rattle.inspection.specs.InspectGoose.{inspectGoose}
 use Rattle.inspection.specs.InspectSv.{inspectSv}
 
@@ -48,7 +49,7 @@ inspect m (sv f) = inspectSv m f
 
 -- each call gets the monitor that the one before it returned
 abbrev pub afterHistory : Monitor → List Inspection → Monitor
-afterHistory m h = foldl (λ m x. inspect m x .monitor) m h
+afterHistory m h = foldl (λ n x. inspect n x .monitor) m h
 
 -- an answer: the allowed flag and the alert codes of slots 0 to count − 1, in order
 abbrev pub Answer : Type 0
@@ -64,7 +65,7 @@ answers m (x ∷ further) = answerOf (inspect m x .answer) ∷ answers (inspect 
 
 -- ---- what is read of a frame
 
--- a source address: its six octets as one number, the first the most significant
+-- a source address: its six octets as one number, the first the most significant, so that no two addresses have one number
 abbrev pub Address : Type 0
 Address = ℕ
 
@@ -113,13 +114,13 @@ svReaches (goose f) = []
 svReaches (sv f) = (svId f, f .«smp_cnt») ∷ []
 
 -- a pair (0, 0) is neither checked nor kept
-abbrev pub clockReached : Address → TimePair → List (Address × TimePair)
-clockReached a pair = cond (eqb (pair .0) 0 && eqb (pair .1) 0) [] ((a, pair) ∷ [])
+abbrev pub unlessAbsent : {X : Type 0} → TimePair → List X → List X
+unlessAbsent pair reached = cond (eqb (pair .0) 0 && eqb (pair .1) 0) [] reached
 
-module _ (m : Monitor) where
-  -- a GOOSE test frame while blocked reaches neither check
+module _ (blocking : Bool) where
+  -- a GOOSE test frame while these are blocked reaches neither check
   abbrev pub unlessBlocked : {X : Type 0} → GooseFrame → List X → List X
-  unlessBlocked f reached = cond (f .test && blockTestFrames m) [] reached
+  unlessBlocked f reached = cond (f .test && blocking) [] reached
 
   abbrev pub gooseReaches : Inspection → List (GooseKey × StNumSqNum)
   gooseReaches (goose f) = unlessBlocked f ((gooseKey f, stNumSqNum f) ∷ [])
@@ -127,8 +128,8 @@ module _ (m : Monitor) where
 
   -- clocks are shared by GOOSE and SV
   abbrev pub clockReaches : Inspection → List (Address × TimePair)
-  clockReaches (goose f) = unlessBlocked f (clockReached (address (f .«src_mac»)) (goosePair f))
-  clockReaches (sv f) = clockReached (address (f .«src_mac»)) (svPair f)
+  clockReaches (goose f) = unlessBlocked f (unlessAbsent (goosePair f) ((address (f .«src_mac»), goosePair f) ∷ []))
+  clockReaches (sv f) = unlessAbsent (svPair f) ((address (f .«src_mac»), svPair f) ∷ [])
 
 -- of the frames of a history, those that reach a check
 abbrev pub reaching : {X : Type 0} → (Inspection → List X) → List Inspection → List X
@@ -156,7 +157,8 @@ numbersAfter last new = cond (replaysNumbers last new) last new
 abbrev pub pairAfter : TimePair → TimePair → TimePair
 pairAfter last new = new
 
--- the latest 16 distinct keys by last frame, each with its numbers: afresh those of its first frame, then what each further frame leaves
+-- the latest 16 distinct keys by last frame. A key begins afresh, with that frame's numbers, at its first frame and whenever 16 or more distinct
+-- other keys came since its last; otherwise `step` says what a frame leaves
 abbrev pub latest16 : {K W : Type 0} → Discrete K → (W → W → W) → List (K × W) → List (K × W)
 latest16 dec step frames = remembered dec 16 (λ new. new) step (reverse frames)
 
@@ -165,13 +167,13 @@ pub record RememberedLists : Type 0 where
   pub gooseStreams : List (GooseKey × StNumSqNum)
   pub clocks : List (Address × TimePair)
 
--- the lists that a history leaves, read off its frames and the monitor's settings
-abbrev pub rememberedLists : Monitor → List Inspection → RememberedLists
-rememberedLists m h =
+-- the lists that a history leaves, read off its frames and the setting that blocks test frames
+abbrev pub rememberedLists : Bool → List Inspection → RememberedLists
+rememberedLists blocking h =
     record {
       svStreams = latest16 (decideList ℕ-discrete) countAfter (reaching svReaches h);
-      gooseStreams = latest16 (decidePair ℕ-discrete ℕ-discrete) numbersAfter (reaching (gooseReaches m) h);
-      clocks = latest16 ℕ-discrete pairAfter (reaching (clockReaches m) h);
+      gooseStreams = latest16 (decidePair ℕ-discrete ℕ-discrete) numbersAfter (reaching (gooseReaches blocking) h);
+      clocks = latest16 ℕ-discrete pairAfter (reaching (clockReaches blocking) h);
     }
 
 -- ---- the claim
@@ -191,7 +193,7 @@ module _ (m : Monitor) where
   module _ (h h′ : List Inspection) where
     -- both leave equal lists: keys, numbers or pairs, and order
     abbrev pub EqualLists : Type 0
-    EqualLists = rememberedLists m h ≡ rememberedLists m h′
+    EqualLists = rememberedLists (blockTestFrames m) h ≡ rememberedLists (blockTestFrames m) h′
 
     -- every further list gets the same answers after both
     abbrev pub SameAnswers : Type 0
@@ -213,10 +215,12 @@ module _ (m : Monitor) where
   abbrev pub DemandFrom : Type 0
   DemandFrom = Premises m → (h h′ : List Inspection) → Legal h → Legal h′ → Sentences h h′
 
--- for a new monitor with its settings made, whatever they are
+-- for a new monitor with its settings made, whatever settings keep the premises
 abbrev pub Demand3 : Type 0
 Demand3 = (strict : Bool) (settings : List Setting) → DemandFrom (configuredMonitor strict settings)
 
--- and for one that was reset, whatever calls came before
+-- and for one that was reset and then set, whatever calls came before
 abbrev pub Demand3AfterReset : Type 0
-Demand3AfterReset = (strict : Bool) (calls : List Call) → DemandFrom (resetMonitor (afterCalls (newMonitor strict) calls))
+Demand3AfterReset =
+    (strict : Bool) (calls : List Call) (settings : List Setting)
+    → DemandFrom (foldl settingMade (resetMonitor (afterCalls (newMonitor strict) calls)) settings)
