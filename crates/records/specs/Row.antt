@@ -1,5 +1,6 @@
 -- Answers as rows of numbers (01, "Our forms for each place": a definition gives this paper's number and values for each of an enum's cases). A row
--- is 1 and the values of the case, or 0 and the number of what refuses: an error's, or a refusal's in 01's list.
+-- is 1 and the values of an answer, or 0 and the number of a refusal: the error's, or that in 01's list of refusals. Where 01 puts the cases in an
+-- order, as those of a count, it is the case's number and its values.
 use Prim.Native.Nat.{ℕ}
 use mathlib.Core.List.{List, [], _∷_}
 use mathlib.Core.Logic.{_⊎_}
