@@ -9,23 +9,24 @@ use borrow.Author.Tests.{lt-ltb, le-ltb, le-leb, lt-leb, eq-eqb, ne-eqb}
 use lib.Dec.{eqb, leb}
 use lib.ListN.{length, set, length-set}
 use lib.Seq.{getD-set-same}
-use Rattle.records.specs.declared.schedule.RetxSchedule.{RetxSchedule}
 use Rattle.records.specs.declared.frame.GooseFrame.{GooseFrame}
+use Rattle.records.specs.declared.schedule.RetxSchedule.{RetxSchedule}
 use Rattle.records.specs.Decide.{decidePair, decideList}
+use Rattle.records.specs.Hash.{fnv1a}
 use Rattle.records.specs.Legal.{OctetArray, LegalGoose}
 use Rattle.checks.specs.GooseSeq.{replays}
+use Rattle.checks.specs.Keys.{flagWord}
 use Rattle.checks.specs.declared.sv_seq.SvSeqOutcome.the-variants.{Replay, CycleWrap, SuspiciousSmpGap}
 use Rattle.checks.specs.SvSeq.{acrossWrap, countOutcome, isReplay}
 use Rattle.checks.specs.TimeField.{hasClock}
 use Rattle.monitor.specs.Monitor.{Monitor}
-use Rattle.checks.specs.Keys.{flagWord}
 use Rattle.monitor.specs.Settings.{blockTestFrames, retxEnforce, timeMaxForwardJump, setBlockTestFrames, setRetxSchedule, setTimeMaxForwardJump}
-use Rattle.inspection.specs.Calls.{blockTest, schedule, maxForwardJump, settingMade}
 use Rattle.inspection.specs.Address.{addressOf}
-use Rattle.inspection.specs.InspectGoose.{gooseNumbers, goosePair, blocked}
+use Rattle.inspection.specs.Calls.{blockTest, schedule, maxForwardJump, settingMade}
+use Rattle.inspection.specs.InspectGoose.{controlBlock, gooseNumbers, goosePair, blocked}
 use Rattle.inspection.specs.InspectSv.{svPair}
-use Rattle.demand3.specs.Demand3.{Inspection, goose, sv, Legal, Address, address, TimePair, StNumSqNum, unlessAbsent, reaching, replaysCount}
-use Rattle.demand3.specs.Demand3.{replaysNumbers, pairAfter, unlessBlocked, latest16, rememberedLists}
+use Rattle.demand3.specs.Demand3.{Inspection, goose, sv, Legal, address, GooseKey, gooseKey, StNumSqNum, stNumSqNum, TimePair, reaching}
+use Rattle.demand3.specs.Demand3.{unlessAbsent, unlessBlocked, replaysCount, replaysNumbers, pairAfter, latest16, rememberedLists}
 use Rattle.demand3.specs.Demand3 as claim
 use Rattle.demand3.proofs.LegalLaws.{LegalOne, legal-parts}
 use Rattle.demand3.proofs.MonitorTerms.{svReaches, gooseStreamOf, gooseReaches, ifClock, clockReaches, countAfter, numbersAfter, monitorLists}
@@ -42,6 +43,9 @@ address-agrees (a ∷ b ∷ c ∷ []) n = absurd (omega (arith, n))
 address-agrees (a ∷ b ∷ c ∷ d ∷ []) n = absurd (omega (arith, n))
 address-agrees (a ∷ b ∷ c ∷ d ∷ e ∷ []) n = absurd (omega (arith, n))
 address-agrees (a ∷ b ∷ c ∷ d ∷ e ∷ f ∷ g ∷ l) n = absurd (omega (arith, n))
+
+key-agrees : (f : GooseFrame) → LegalGoose f → gooseKey f ≡ gooseStreamOf f
+key-agrees f g = λ i. (address-agrees (f .«src_mac») (g .source .size) i, fnv1a (controlBlock f))
 
 -- ---- replays
 
@@ -106,7 +110,9 @@ module _ (m : Monitor) where
 
   goose-agrees : (x : Inspection) → LegalOne x → claim.gooseReaches (blockTestFrames m) x ≡ gooseReaches m x
   unfolding LegalOne
-  goose-agrees (goose f) g = rw (address-agrees (f .«src_mac») (g .source .size)) (blocked-agrees f ((gooseStreamOf f, gooseNumbers f) ∷ []))
+  goose-agrees (goose f) g =
+      ap (λ (k : GooseKey). unlessBlocked (blockTestFrames m) f ((k, stNumSqNum f) ∷ [])) (key-agrees f g)
+      ∙ blocked-agrees f ((gooseStreamOf f, gooseNumbers f) ∷ [])
   goose-agrees (sv f) g = refl
 
   clocks-agree : (x : Inspection) → LegalOne x → claim.clockReaches (blockTestFrames m) x ≡ clockReaches m x
