@@ -25,9 +25,9 @@ use crate::result::HostRawVerdict;
 use crate::result::HostVerdict;
 use batch::inspect_sv_batch;
 use inspection::address::address_of;
-use inspection::inspect_sv::sv_verdict_on;
 use lent::goose::goose_verdict_lent;
 use lent::mms::mms_verdict_lent;
+use lent::raw::raw_sv_verdict_lent;
 use lent::sv::sv_verdict_lent;
 use monitor::parts::WORDS;
 use monitor::parts::add_goose_publisher_on;
@@ -49,8 +49,6 @@ use monitor::totals::SV_TOTAL_INSPECTED;
 use monitor::totals::TOTAL_ALERTS;
 use monitor::totals::total_on;
 use records::schedule::RetxSchedule;
-use wire::sv::Parsed;
-use wire::sv::parse_sv;
 
 // Makes a monitor that is not strict, whatever stood there.
 #[no_mangle]
@@ -216,20 +214,12 @@ pub extern "C" fn mokyndu_raw_sv_in_place(
     ensures { λ r. ⌜ record { monitor = monitorOf (now (m .exit)); answer = (r .verdict .octets, r .error) }
         ≡ answered rawVerdict (inspectRawSv (monitorOf (now (m .entry))) (now (octets .entry)) «timestamp_us») ⌝ }
 {
-    let parsed = parse_sv(octets, timestamp_us);
-    let answer = parsed.answer;
-    let error = parsed_error(answer);
-    let Parsed::Frame = answer else {
-        return HostRawVerdict {
-            verdict: HostVerdict { octets: [0; 8] },
-            error: error,
-        };
-    };
-    let frame = parsed.frame;
-    let verdict = sv_verdict_on(m, frame);
+    let raw = raw_sv_verdict_lent(m, octets);
+    let answer = raw.answer;
+    let verdict = raw.verdict;
     HostRawVerdict {
         verdict: HostVerdict { octets: verdict },
-        error: error,
+        error: parsed_error(answer),
     }
 }
 

@@ -10,7 +10,7 @@ ghost use Rattle.monitor.specs.Monitor.{monitorOf};
 ghost use Rattle.monitor.specs.Parts.{cbOn};
 ghost use Rattle.inspection.specs.InspectSv.{rateFindings, countFindings, svRule, svTimeField, svReservation, svBinding};
 ghost use Rattle.inspection.specs.InspectSv.{svReadBy, checkedSv, inspectSv, inspectRawSv};
-ghost use Rattle.inspection.specs.Report.{clockFindings, findingsOf, alertsOf, withVerdict};
+ghost use Rattle.inspection.specs.Report.{clockFindings, findingsOf, alertsOf};
 use crate::address::address_of;
 use crate::clock::clock_checked;
 use crate::hijack::hijacked;
@@ -20,7 +20,6 @@ use crate::report::RuleCheck;
 use crate::report::clock_alert;
 use crate::report::one_alert;
 use crate::report::report_on;
-use crate::report::verdict_on;
 use checks::keys::plain_key;
 use checks::sv_publisher::PublisherMatch;
 use checks::sv_seq::SvSeqOutcome;
@@ -222,14 +221,6 @@ pub fn inspect_sv_on(m: &mut [u64; WORDS], frame: SvFrame) -> InspectResult
         frame.smp_cnt as u32,
         frame.timestamp_us,
     )
-}
-
-// The same, and answers the verdict.
-pub fn sv_verdict_on(m: &mut [u64; WORDS], frame: SvFrame) -> [u8; 8]
-    ensures { λ r. ⌜ record { monitor = monitorOf (now (m .exit)); answer = r } ≡ withVerdict (inspectSv (monitorOf (now (m .entry))) frame) ⌝ }
-{
-    let alerts = check_sv_on(m, frame);
-    verdict_on(m, alerts)
 }
 
 // Inspects a raw SV frame. One that cannot be read leaves the monitor, and is not allowed.

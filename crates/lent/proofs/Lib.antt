@@ -1,1 +1,2 @@
 pub mod OctetLaws
+pub mod RawLaws

@@ -2,3 +2,4 @@ pub mod Octets
 pub mod Sv
 pub mod Goose
 pub mod Mms
+pub mod Raw

@@ -2,4 +2,5 @@
 pub mod goose;
 pub mod mms;
 pub mod octets;
+pub mod raw;
 pub mod sv;

@@ -128,18 +128,18 @@ definite (first ∷ further) {used} {value} e =
     short false f q = f q
 
 module _ (octets : List ℕ) {tag start len end : ℕ} where
-  -- a readable element takes two octets or more, and no more than there are
-  pub element-end : element octets ≡ Read tag start len end → (2 ≤ end) × (end ≤ length octets)
+  -- a readable element takes two octets or more, and no more than there are; its content starts within it
+  pub element-end : element octets ≡ Read tag start len end → (2 ≤ end) × (end ≤ length octets) × (start ≤ end)
   unfolding element within
   element-end e = go (ltb (length octets) 2 || eqb (octetAt octets 0 % 32) 31) (lengthOf (drop 1 octets)) refl e
     where
       ends : (b : Bool) (t s k : ℕ) → 2 ≤ s → leb (s + k) (length octets) ≡ b → cond b (Read t s k (s + k)) Unreadable ≡ Read tag start len end
-          → (2 ≤ end) × (end ≤ length octets)
-      ends true t s k h q p = let u : s + k ≡ end = cc in let l = leb-true (s + k) (length octets) q in (omega arith, omega arith)
+          → (2 ≤ end) × (end ≤ length octets) × (start ≤ end)
+      ends true t s k h q p = let u : s + k ≡ end = cc in let v : s ≡ start = cc in let l = leb-true (s + k) (length octets) q in (omega arith, omega arith, omega arith)
       ends false t s k h q p = let z : _≡_ {A = ℕ} 0 1 = cc in absurd (omega arith)
 
       go : (b : Bool) (l : Length) → lengthOf (drop 1 octets) ≡ l → cond b Unreadable (withLength (octetAt octets 0) (length octets) l) ≡ Read tag start len end
-          → (2 ≤ end) × (end ≤ length octets)
+          → (2 ≤ end) × (end ≤ length octets) × (start ≤ end)
       go true l q p = let z : _≡_ {A = ℕ} 0 1 = cc in absurd (omega arith)
       go false (Definite used value) q p =
           let d = definite (drop 1 octets) q in

@@ -3,6 +3,7 @@ pub mod NumberLaws
 pub mod ElementLaws
 pub mod HeaderLaws
 pub mod SvLaws
+pub mod PlaceLaws
 pub mod PointsHold
 pub mod SvLegal
 pub mod RowLaws

@@ -64,6 +64,10 @@ module _ (content : List ℕ) (o : Octets content) where
   part-below : (start n : ℕ) → n ≤ 4 → bigEndian (take n (drop start content)) < 2 ^ 32
   part-below start n h = omega (arith, number-below (take n (drop start content)) (part-octets content o start n) 4 (simp length-take (omega arith)))
 
+  -- a part of a time that is long enough, or what was there before
+  timed-below : (tag n : ℕ) {part old : ℕ} → part < 2 ^ 32 → old < 2 ^ 32 → cond (eqb tag 0x84) (cond (leb n (length content)) part old) old < 2 ^ 32
+  timed-below tag n p o = cond-holds (λ (n : ℕ). n < 2 ^ 32) (eqb tag 0x84) (cond-holds (λ (n : ℕ). n < 2 ^ 32) (leb n (length content)) p o) o
+
   field-legal : (f : SvFrame) (tag : ℕ) → LegalSv f → LegalSv (withField f tag content)
   unfolding withField
   field-legal f tag l =
@@ -76,8 +80,8 @@ module _ (content : List ℕ) (o : Octets content) where
         dataset-length = cond-holds (λ (n : ℕ). n < 256) (eqb tag 0x81) (omega arith) (l .dataset-length);
         dataset-octets = cond-holds (OctetArray 64) (eqb tag 0x81) (overlaid-array (l .dataset-octets)) (l .dataset-octets);
         time = l .time;
-        seconds = cond-holds (λ (n : ℕ). n < 2 ^ 32) (eqb tag 0x84 && leb 4 (length content)) (part-below 0 4 (omega arith)) (l .seconds);
-        fraction = cond-holds (λ (n : ℕ). n < 2 ^ 32) (eqb tag 0x84 && leb 7 (length content)) (part-below 4 3 (omega arith)) (l .fraction);
+        seconds = timed-below tag 4 (part-below 0 4 (omega arith)) (l .seconds);
+        fraction = timed-below tag 7 (part-below 4 3 (omega arith)) (l .fraction);
       }
 
 fields-legal : (f : SvFrame) (counted : Bool) (e : Elements) → LegalSv f → Contents e → LegalSv (fieldsFrom f counted e .frame)

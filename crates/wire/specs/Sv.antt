@@ -1,6 +1,6 @@
 -- The sampled-values frame (01, "SV frame").
 use Prim.Native.Nat.{ℕ, _-_}
-use mathlib.Core.Bool.{Bool, true, false, _&&_, _||_, cond}
+use mathlib.Core.Bool.{Bool, true, false, _||_, cond}
 use mathlib.Core.List.{List, [], _∷_}
 use lib.Dec.{eqb, ltb, leb}
 use lib.ListN.{length, take, drop}
@@ -53,7 +53,14 @@ abbrev pub valueOr : ℕ → Unsigned → ℕ
 valueOr old (unsigned.Value v) = v
 valueOr old unsigned.Refused = old
 
--- a field replaces what it gives: an 84 of 4 octets or more the seconds, of 7 or more the fraction too; other tags are skipped
+-- the seconds of a time of 4 octets or more, the fraction of one of 7 or more, or those before
+abbrev pub secondsOr : ℕ → List ℕ → ℕ
+secondsOr old content = cond (leb 4 (length content)) (bigEndian (take 4 content)) old
+
+abbrev pub fractionOr : ℕ → List ℕ → ℕ
+fractionOr old content = cond (leb 7 (length content)) (bigEndian (take 3 (drop 4 content))) old
+
+-- a field replaces what it gives; other tags are skipped
 unfoldable pub withField : SvFrame → ℕ → List ℕ → SvFrame
 withField f tag content =
     record {
@@ -65,10 +72,8 @@ withField f tag content =
       «dataset_ref_len» = cond (eqb tag 0x81) (validLen (length content)) (f .«dataset_ref_len»);
       «dataset_ref» = cond (eqb tag 0x81) (overlaid (f .«dataset_ref») content) (f .«dataset_ref»);
       «timestamp_us» = f .«timestamp_us»;
-      «t_seconds_since_epoch» =
-          cond (eqb tag 0x84 && leb 4 (length content)) (bigEndian (take 4 content)) (f .«t_seconds_since_epoch»);
-      «t_fraction_of_second» =
-          cond (eqb tag 0x84 && leb 7 (length content)) (bigEndian (take 3 (drop 4 content))) (f .«t_fraction_of_second»);
+      «t_seconds_since_epoch» = cond (eqb tag 0x84) (secondsOr (f .«t_seconds_since_epoch») content) (f .«t_seconds_since_epoch»);
+      «t_fraction_of_second» = cond (eqb tag 0x84) (fractionOr (f .«t_fraction_of_second») content) (f .«t_fraction_of_second»);
     }
 
 -- the fields of an ASDU in their order: of a repeated tag the last wins. An unreadable element and a field that does not fit refuse
@@ -122,10 +127,13 @@ emptyFrame source time =
       «t_fraction_of_second» = defaultSv .«t_fraction_of_second»;
     }
 
--- an outer 60 is opened, the first A2 is sought, and inside it an initial 30 is opened; what is empty has no 82
+-- an outer 60 is opened, the first A2 is sought, and inside it an initial 30 is opened
+abbrev pub asduOf : List ℕ → List ℕ
+asduOf apdu = opened 0x30 (firstContent 0xA2 (elements (opened 0x60 apdu)))
+
+-- the fields of the ASDU; what is empty has no 82
 unfoldable pub apduFrame : List ℕ → List ℕ → ℕ → ParsedSv
-apduFrame apdu source time =
-    fieldsFrom (emptyFrame source time) false (elements (opened 0x30 (firstContent 0xA2 (elements (opened 0x60 apdu)))))
+apduFrame apdu source time = fieldsFrom (emptyFrame source time) false (elements (asduOf apdu))
 
 -- the frame of the APDU that the header tells of
 abbrev pub headerFrame : List ℕ → ℕ → List ℕ → Apdu → ParsedSv

@@ -2,5 +2,6 @@
 pub mod element;
 pub mod header;
 pub mod number;
+pub mod places;
 pub mod reader;
 pub mod sv;

@@ -5,9 +5,10 @@ ghost use mathlib.Core.Bool.{false};
 ghost use lib.ListN.{length};
 ghost use Rattle.records.specs.Name.{validLen};
 ghost use Rattle.wire.specs.Element.{elements, ended};
+ghost use Rattle.wire.specs.Number.{unsignedInt};
 ghost use Rattle.wire.specs.Refusals.{FrameOr9};
-ghost use Rattle.wire.specs.Sv.{fieldFits, overlaid, withField, refusedSv, fieldsFrom, noFields};
-ghost use Rattle.wire.specs.Sv.{refusedFields, goesOn, withElement, fieldsOn, apduFrame, svFrame};
+ghost use Rattle.wire.specs.Sv.{fieldFits, overlaid, secondsOr, fractionOr, valueOr, withField, refusedSv, fieldsFrom, noFields};
+ghost use Rattle.wire.specs.Sv.{refusedFields, goesOn, withElement, fieldsOn, asduOf, apduFrame, svFrame};
 use crate::element::Element;
 use crate::element::content;
 use crate::element::first_content;
@@ -77,7 +78,7 @@ pub fn field_fits(tag: u8, content: &[u8]) -> bool
 }
 
 // A name's length, 64 at most.
-fn name_len(content: &[u8]) -> u8
+pub fn name_len(content: &[u8]) -> u8
     ensures { λ r. ⌜ r ≡ validLen (length (now (content .entry))) ⌝ }
 {
     if content.len() < 64 {
@@ -87,7 +88,7 @@ fn name_len(content: &[u8]) -> u8
 }
 
 // Puts a content's octets over the front of a name's, of which the others stay.
-fn overlay(name: &mut [u8; 64], content: &[u8])
+pub fn overlay(name: &mut [u8; 64], content: &[u8])
     ensures { λ _. ⌜ now (name .exit) ≡ overlaid (now (name .entry)) (now (content .entry)) ⌝ }
 {
     let n = name_len(content) as usize;
@@ -98,32 +99,34 @@ fn overlay(name: &mut [u8; 64], content: &[u8])
     }
 }
 
-// A frame with the parts of its time that the content is long enough to give.
-fn with_time(frame: SvFrame, time: &[u8]) -> SvFrame
-    ensures { λ r. ⌜ r ≡ withField frame 0x84 (now (time .entry)) ⌝ }
+// The seconds that a time of 4 octets or more gives, or those before.
+pub fn seconds_or(old: u32, time: &[u8]) -> u32
+    ensures { λ r. ⌜ r ≡ secondsOr old (now (time .entry)) ⌝ }
 {
     if time.len() < 4 {
-        return frame;
+        return old;
     }
-    let mut out = frame;
-    out.t_seconds_since_epoch = big_endian(time);
-    if time.len() < 7 {
-        return out;
-    }
-    out.t_fraction_of_second = big_endian(content(time, 4, 3));
-    out
+    big_endian(time)
 }
 
-// A frame with its rate.
-fn with_rate(frame: SvFrame, rate: &[u8]) -> SvFrame
-    ensures { λ r. ⌜ r ≡ withField frame 0x86 (now (rate .entry)) ⌝ }
+// The fraction that a time of 7 octets or more gives, or the one before.
+pub fn fraction_or(old: u32, time: &[u8]) -> u32
+    ensures { λ r. ⌜ r ≡ fractionOr old (now (time .entry)) ⌝ }
+{
+    if time.len() < 7 {
+        return old;
+    }
+    big_endian(content(time, 4, 3))
+}
+
+// The rate that a number gives, or the one before.
+pub fn rate_or(old: u16, rate: &[u8]) -> u16
+    ensures { λ r. ⌜ r ≡ valueOr old (unsignedInt (now (rate .entry))) ⌝ }
 {
     let Unsigned::Value(value) = decode_unsigned_int(rate) else {
-        return frame;
+        return old;
     };
-    let mut out = frame;
-    out.smp_rate = value;
-    out
+    value
 }
 
 // A frame with one more field of its ASDU.
@@ -146,10 +149,13 @@ pub fn with_field(frame: SvFrame, tag: u8, field: &[u8]) -> SvFrame
         return out;
     }
     if tag == 0x84 {
-        return with_time(frame, field);
+        out.t_seconds_since_epoch = seconds_or(frame.t_seconds_since_epoch, field);
+        out.t_fraction_of_second = fraction_or(frame.t_fraction_of_second, field);
+        return out;
     }
     if tag == 0x86 {
-        return with_rate(frame, field);
+        out.smp_rate = rate_or(frame.smp_rate, field);
+        return out;
     }
     frame
 }
@@ -244,6 +250,14 @@ pub fn read_fields(asdu: &[u8], frame: SvFrame) -> ParsedSv
     finished(fields)
 }
 
+// The first ASDU of an APDU.
+pub fn sv_asdu<'a>(apdu: &'a [u8]) -> &'a [u8]
+    ensures { λ r. ⌜ now r ≡ asduOf (now (apdu .entry)) ⌝ }
+{
+    let asdus = first_content(opened(apdu, 0x60), 0xa2);
+    opened(asdus, 0x30)
+}
+
 // The frame of an APDU.
 pub fn decode_sv_apdu(apdu: &[u8], src_mac: [u8; 6], timestamp_us: u64) -> ParsedSv
     ensures { λ r. ⌜ r ≡ apduFrame (now (apdu .entry)) «src_mac» «timestamp_us» ⌝ }
@@ -251,8 +265,7 @@ pub fn decode_sv_apdu(apdu: &[u8], src_mac: [u8; 6], timestamp_us: u64) -> Parse
     let mut frame = SvFrame::default();
     frame.src_mac = src_mac;
     frame.timestamp_us = timestamp_us;
-    let asdus = first_content(opened(apdu, 0x60), 0xa2);
-    read_fields(opened(asdus, 0x30), frame)
+    read_fields(sv_asdu(apdu), frame)
 }
 
 // The frame that some octets hold, taken at a time.

@@ -32,17 +32,22 @@ returns-3 : tie.Need-returns-3
 unfolding withField
 returns-3 c = rw (c .pair-at .ensures, c .before .if3 .taken)
 
-with-time-requires : tie.Need-with-time-requires
-with-time-requires c κs = search needs
+seconds-or-requires : tie.Need-seconds-or-requires
+seconds-or-requires c κs = search needs
+
+fraction-or-requires : tie.Need-fraction-or-requires
+fraction-or-requires c κs = search needs
 
 returns-4 : tie.Need-returns-4
-returns-4 c = rw (c .before .if4 .taken) (c .with-time .ensures)
+unfolding withField
+returns-4 c = rw (c .fraction-or .ensures, c .before .seconds-or .ensures, c .before .before .if4 .taken)
 
-with-rate-requires : tie.Need-with-rate-requires
-with-rate-requires c κs = search needs
+rate-or-requires : tie.Need-rate-or-requires
+rate-or-requires c κs = search needs
 
 returns-5 : tie.Need-returns-5
-returns-5 c = rw (c .before .if5 .taken) (c .with-rate .ensures)
+unfolding withField
+returns-5 c = rw (c .rate-or .ensures, c .before .if5 .taken)
 
 returns-6 : tie.Need-returns-6
 unfolding withField
@@ -67,8 +72,9 @@ with-field-spec =
     returns-2
     pair-at-requires
     returns-3
-    with-time-requires
+    seconds-or-requires
+    fraction-or-requires
     returns-4
-    with-rate-requires
+    rate-or-requires
     returns-5
     returns-6)

@@ -1,0 +1,127 @@
+-- Laws of a raw frame that is read where it stands: what the checks read of it, and the verdict.
+use Prim.Native.Nat.{ℕ, _-_}
+use mathlib.Core.Bool.{true, false}
+use mathlib.Core.List.{List}
+use mathlib.Core.Path.{_≡_, refl, sym, ap, _∙_}
+use lib.ListN.{length, take, drop, replicate, length-replicate}
+use Rattle.records.specs.declared.error.VsError.the-variants.{InvalidInput}
+use Rattle.records.specs.Alert.{sourceSv, noAlert, alertOf}
+use Rattle.records.specs.Name.{validLen, nameOf}
+use Rattle.records.specs.Result.{cleanResult}
+use Rattle.records.specs.Verdict.{verdictOf}
+use Rattle.records.proofs.Booleans.{cond-yes, cond-no}
+use Rattle.wire.specs.declared.header.Apdu.{Apdu}
+use Rattle.wire.specs.declared.header.Apdu.the-variants.{At, Refused}
+use Rattle.wire.specs.declared.header.Header.{Header}
+use Rattle.wire.specs.declared.places.SvPlaces.{SvPlaces}
+use Rattle.wire.specs.declared.sv.Parsed.{Parsed}
+use Rattle.wire.specs.declared.sv.Parsed.the-variants.{Frame, Error}
+use Rattle.wire.specs.declared.sv.ParsedSv.{ParsedSv}
+use Rattle.wire.specs.Element.{elements}
+use Rattle.wire.specs.Header.{header}
+use Rattle.wire.specs.Places.{SvReading, readingAt, placedReading, parsedReading}
+use Rattle.wire.specs.Sv.{refusedSv, overlaid, fieldsFrom, emptyFrame, asduOf, apduFrame, headerFrame, svFrame}
+use Rattle.wire.proofs.PlaceLaws.{overlaid-name, read-frame, read-error}
+use Rattle.checks.specs.Keys.{plainKey}
+use Rattle.monitor.specs.Monitor.{Monitor}
+use Rattle.monitor.specs.Parts.{After}
+use Rattle.monitor.specs.Totals.{countedSv}
+use Rattle.inspection.specs.Address.{addressOf}
+use Rattle.inspection.specs.InspectSv.{svReadBy, svBinding, inspectSv, rawInspected, inspectRawSv}
+use Rattle.inspection.specs.Report.{Checked, reported, withAllowed, withVerdict}
+use Rattle.inspection.proofs.StageLaws.{counted-checked}
+use Rattle.lent.specs.declared.raw.RawVerdict.{RawVerdict}
+use Rattle.lent.specs.Raw.{withRawVerdict, parsedInspected, refusedVerdict, readNumbers, checkedReading}
+
+-- the verdict on an unreadable frame: not allowed, and no alert
+zeros-refuse : refusedVerdict .verdict ≡ verdictOf (withAllowed (cleanResult sourceSv) false)
+unfolding verdictOf cleanResult noAlert alertOf
+zeros-refuse = refl
+
+-- ---- what the checks read
+
+-- a name that is put into 64 octets
+pub name-read :
+    {content part name : List ℕ} {len : ℕ} → content ≡ part → name ≡ overlaid (replicate 64 0) content → len ≡ validLen (length content)
+    → nameOf name len ≡ take 64 part
+name-read {content = content} p n l =
+    (λ i. nameOf (n i) (l i)) ∙ overlaid-name (replicate 64 0) content (length-replicate {A = ℕ} 64 0) ∙ ap (take 64) p
+
+pub checked-reading :
+    (m : Monitor) (q : SvReading) {svid dataset : List ℕ} {address : ℕ} {counted : Monitor} {c : Checked}
+    → svid ≡ plainKey (q .svid) → dataset ≡ q .dataset → address ≡ addressOf (q .source) → counted ≡ countedSv m
+    → c ≡ svBinding counted (svReadBy svid dataset (readNumbers address q)) → c ≡ checkedReading m q
+checked-reading m q {counted = counted} k d a n e =
+    counted-checked (λ x. svBinding x (svReadBy (plainKey (q .svid)) (q .dataset) (readNumbers (addressOf (q .source)) q))) n
+    (e ∙ λ i. svBinding counted (svReadBy (k i) (d i) (readNumbers (a i) q)))
+
+-- ---- the verdict
+
+-- by the answer and the frame
+module _ (m : Monitor) (p : ParsedSv) where
+  answered-by : {a : Parsed} → p .answer ≡ a → withRawVerdict (rawInspected m a (p .frame)) ≡ withRawVerdict (parsedInspected m p)
+  answered-by e = ap (λ (a : Parsed). withRawVerdict (rawInspected m a (p .frame))) (sym e)
+
+  raw-refused :
+      {r : RawVerdict} → r ≡ refusedVerdict → p .answer ≡ Error InvalidInput
+      → record { monitor = m; answer = r } ≡ withRawVerdict (parsedInspected m p)
+  raw-refused r e =
+      (λ i. record { monitor = m; answer = r i })
+      ∙ (λ i. record { monitor = m; answer = record { answer = Error InvalidInput; verdict = zeros-refuse i } })
+      ∙ answered-by e
+
+  raw-inspected :
+      {after : Monitor} {verdict : List ℕ} → p .answer ≡ Frame → record { monitor = after; answer = verdict } ≡ withVerdict (inspectSv m (p .frame))
+      → record { monitor = after; answer = record { answer = Frame; verdict = verdict } } ≡ withRawVerdict (parsedInspected m p)
+  raw-inspected e v = (λ i. record { monitor = v i .monitor; answer = record { answer = Frame; verdict = v i .answer } }) ∙ answered-by e
+
+-- by the places of its ASDU
+module _ (m : Monitor) (apdu source : List ℕ) (time : ℕ) {asdu : List ℕ} (a : asdu ≡ asduOf apdu) (places : SvPlaces)
+    (e : placedReading source asdu places ≡ parsedReading (fieldsFrom (emptyFrame source time) false (elements asdu))) where
+  reading : placedReading source asdu places ≡ parsedReading (apduFrame apdu source time)
+  unfolding apduFrame
+  reading = e ∙ ap (λ (l : List ℕ). parsedReading (fieldsFrom (emptyFrame source time) false (elements l))) a
+
+  pub places-refused :
+      places .counted ≡ false → {r : RawVerdict} → r ≡ refusedVerdict
+      → record { monitor = m; answer = r } ≡ withRawVerdict (parsedInspected m (apduFrame apdu source time))
+  places-refused h r = let p = apduFrame apdu source time in raw-refused m p r (read-error p (sym (cond-no _ _ h) ∙ reading))
+
+  pub places-inspected :
+      places .counted ≡ true → {c : Checked} → c ≡ checkedReading m (readingAt source asdu places) → {after : Monitor} {verdict : List ℕ}
+      → ((source number time : ℕ) → record { monitor = after; answer = verdict } ≡ withVerdict (reported source number time c))
+      → record { monitor = after; answer = record { answer = Frame; verdict = verdict } }
+      ≡ withRawVerdict (parsedInspected m (apduFrame apdu source time))
+  unfolding inspectSv
+  places-inspected h k v =
+      let p = apduFrame apdu source time in
+      let r = read-frame p (sym (cond-yes _ _ h) ∙ reading) in
+      let f = p .frame in
+      raw-inspected m p (r .0)
+      (v sourceSv (f .«smp_cnt») (f .«timestamp_us»)
+      ∙ ap (λ (c : Checked). withVerdict (reported sourceSv (f .«smp_cnt») (f .«timestamp_us») c)) (k ∙ ap (checkedReading m) (r .1)))
+
+-- by the header
+module _ (m : Monitor) (octets : List ℕ) (time : ℕ) {found : Header} (e : found ≡ header 0x88BA octets) {a : Apdu} (h : found .apdu ≡ a) where
+  by-header : headerFrame octets time (found .«src_mac») a ≡ svFrame octets time
+  unfolding svFrame
+  by-header = ap (headerFrame octets time (found .«src_mac»)) (sym h) ∙ λ i. headerFrame octets time (e i .«src_mac») (e i .apdu)
+
+  header-inspected :
+      withRawVerdict (parsedInspected m (headerFrame octets time (found .«src_mac») a)) ≡ withRawVerdict (inspectRawSv m octets time)
+  unfolding inspectRawSv
+  header-inspected = ap (λ (p : ParsedSv). withRawVerdict (parsedInspected m p)) by-header
+
+module _ (m : Monitor) (octets : List ℕ) (time : ℕ) {found : Header} (e : found ≡ header 0x88BA octets) where
+  pub header-refused :
+      found .apdu ≡ Refused → {r : RawVerdict} → r ≡ refusedVerdict
+      → record { monitor = m; answer = r } ≡ withRawVerdict (inspectRawSv m octets time)
+  unfolding refusedSv
+  header-refused h r = raw-refused m refusedSv r refl ∙ header-inspected m octets time e h
+
+  pub header-found :
+      {start end : ℕ} → found .apdu ≡ At start end → {apdu : List ℕ} → apdu ≡ take (end - start) (drop start octets)
+      → {s : After RawVerdict} → s ≡ withRawVerdict (parsedInspected m (apduFrame apdu (found .«src_mac») time))
+      → s ≡ withRawVerdict (inspectRawSv m octets time)
+  header-found h a v =
+      v ∙ ap (λ (l : List ℕ). withRawVerdict (parsedInspected m (apduFrame l (found .«src_mac») time))) a ∙ header-inspected m octets time e h

@@ -1,0 +1,102 @@
+// A raw SV frame, read where it stands.
+ghost use Prim.Native.Nat.{ℕ};
+ghost use mathlib.Core.Path.{_≡_};
+ghost use Rattle.wire.specs.Places.{readingAt};
+ghost use Rattle.wire.specs.Sv.{apduFrame};
+ghost use Rattle.monitor.specs.Monitor.{monitorOf};
+ghost use Rattle.inspection.specs.InspectSv.{inspectRawSv};
+ghost use Rattle.inspection.specs.Report.{alertsOf};
+ghost use Rattle.lent.specs.Raw.{withRawVerdict, parsedInspected, refusedVerdict, checkedReading};
+use checks::keys::plain_key;
+use inspection::address::address_of;
+use inspection::inspect_sv::SvNumbers;
+use inspection::inspect_sv::sv_checks_on;
+use inspection::report::CheckAlerts;
+use inspection::report::verdict_on;
+use monitor::parts::WORDS;
+use monitor::totals::SV_TOTAL_INSPECTED;
+use monitor::totals::count_frame_on;
+use records::error::VsError;
+use wire::element::content;
+use wire::header::Apdu;
+use wire::header::ETHERTYPE_SV;
+use wire::header::ethernet_header;
+use wire::places::SvPlaces;
+use wire::places::name_octets;
+use wire::places::sv_places;
+use wire::sv::Parsed;
+use wire::sv::name_len;
+use wire::sv::sv_asdu;
+
+// The verdict on a raw frame, with the error where it could not be read.
+pub struct RawVerdict {
+    pub answer: Parsed,
+    pub verdict: [u8; 8],
+}
+
+// The verdict on an unreadable frame: not allowed, and no alert.
+fn refused_verdict() -> RawVerdict
+    ensures { λ r. ⌜ r ≡ refusedVerdict ⌝ }
+{
+    RawVerdict {
+        answer: Parsed::Error(VsError::InvalidInput),
+        verdict: [0; 8],
+    }
+}
+
+// Counts and checks a frame of a source, by the places of its ASDU.
+fn check_places(m: &mut [u64; WORDS], asdu: &[u8], source: [u8; 6], p: SvPlaces) -> CheckAlerts
+    ensures { λ r. ⌜ record { monitor = monitorOf (now (m .exit)); answer = alertsOf r }
+        ≡ checkedReading (monitorOf (now (m .entry))) (readingAt source (now (asdu .entry)) p) ⌝ }
+{
+    let n = SvNumbers {
+        address: address_of(source),
+        seconds: p.seconds,
+        fraction: p.fraction,
+        smp_cnt: p.smp_cnt,
+        smp_rate: p.smp_rate,
+    };
+    let svid = content(asdu, p.svid_at, p.svid_len);
+    let dataset = content(asdu, p.dataset_at, p.dataset_len);
+    count_frame_on(m, SV_TOTAL_INSPECTED);
+    sv_checks_on(
+        m,
+        &plain_key(name_octets(svid), name_len(svid)),
+        &name_octets(dataset),
+        name_len(dataset),
+        n,
+    )
+}
+
+// Inspects the frame of an APDU from a source, and answers the verdict.
+fn apdu_verdict(m: &mut [u64; WORDS], apdu: &[u8], source: [u8; 6]) -> RawVerdict
+    ensures { λ r. ⌜ ((time : ℕ) → record { monitor = monitorOf (now (m .exit)); answer = r }
+        ≡ withRawVerdict (parsedInspected (monitorOf (now (m .entry))) (apduFrame (now (apdu .entry)) source time))) ⌝ }
+{
+    let asdu = sv_asdu(apdu);
+    let p = sv_places(asdu);
+    if !p.counted {
+        return refused_verdict();
+    }
+    let alerts = check_places(m, asdu, source, p);
+    let verdict = verdict_on(m, alerts);
+    RawVerdict {
+        answer: Parsed::Frame,
+        verdict: verdict,
+    }
+}
+
+// Inspects a raw frame, and answers the verdict, which does not depend on the frame's time. One that cannot be read leaves the monitor, and is not
+// allowed.
+pub fn raw_sv_verdict_lent(m: &mut [u64; WORDS], bytes: &[u8]) -> RawVerdict
+    ensures { λ r. ⌜ ((time : ℕ) → record { monitor = monitorOf (now (m .exit)); answer = r }
+        ≡ withRawVerdict (inspectRawSv (monitorOf (now (m .entry))) (now (bytes .entry)) time)) ⌝ }
+{
+    let found = ethernet_header(bytes, ETHERTYPE_SV);
+    let apdu = found.apdu;
+    let Apdu::At { start, end } = apdu else {
+        return refused_verdict();
+    };
+    let source = found.src_mac;
+    apdu_verdict(m, content(bytes, start, end - start), source)
+}

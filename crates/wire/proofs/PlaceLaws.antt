@@ -1,0 +1,218 @@
+-- Laws of a frame that is read by positions: what the checks read of it is what they read of the frame that is built.
+use mathlib.Core.Path.{_≡_, refl, sym, _∙_, ap}
+use mathlib.Core.Bool.{Bool, true, false, _||_, cond}
+use mathlib.Core.List.{List}
+use Prim.Native.Nat.{ℕ, _+_, _-_, _≤_, _<_}
+use native.Mathlib.Nat.{zero-add}
+use native.Mathlib.Omega.{arith}
+use lib.Dec.{eqb}
+use lib.ListN.{length, take, drop, length-take, length-drop, length-replicate}
+use lib.Seq.{length-take-le, getD-take, ext-getD, drop-drop}
+use Rattle.records.proofs.Booleans.{cond-holds, cond-yes, cond-no}
+use Rattle.records.proofs.NameLaws.{length-overwritten, overwritten-in}
+use Rattle.records.specs.declared.error.VsError.{VsError}
+use Rattle.records.specs.declared.error.VsError.the-variants.{InvalidInput}
+use Rattle.records.specs.declared.frame.SvFrame.{SvFrame}
+use Rattle.records.specs.Name.{validLen, nameOf, octetAt, overwritten}
+use Rattle.wire.specs.declared.element.Element.{Element}
+use Rattle.wire.specs.declared.element.Element.the-variants.{Read, Unreadable}
+use Rattle.wire.specs.declared.sv.Parsed.{Parsed}
+use Rattle.wire.specs.declared.sv.Parsed.the-variants.{Frame, Error}
+use Rattle.wire.specs.declared.sv.ParsedSv.{ParsedSv}
+use Rattle.wire.specs.declared.places.SvPlaces.{SvPlaces}
+use Rattle.wire.specs.Element.{Elements, ended, unreadable, next, element, elements}
+use Rattle.wire.specs.Places.{SvReading, readingOf, readingAt, noPlaces, withRead, ReadSv, read, refused, ifCounted, placedReading}
+use Rattle.wire.specs.Places.{answeredReading, parsedReading}
+use Rattle.wire.specs.Sv.{refusedSv, fieldFits, overlaid, withField, fieldsFrom, emptyFrame}
+use Rattle.wire.proofs.ElementLaws.{element-end, elements-none, elements-unreadable, elements-read}
+use Rattle.wire.proofs.PartLaws.{rest-is}
+
+-- ---- names
+
+-- what is put over the front of 64 octets reads back: nothing of what stood there
+pub overlaid-name : (old content : List ℕ) → length old ≡ 64 → nameOf (overlaid old content) (validLen (length content)) ≡ take 64 content
+unfolding overlaid
+overlaid-name old content size =
+    let n = validLen (length content) in
+    let over = overwritten old 0 (octetAt content) n in
+    let long : length (take (validLen n) over) ≡ n = length-take-le (validLen n) over (omega (arith, length-overwritten old (octetAt content) 0 n)) ∙ omega arith in
+    let short : length (take 64 content) ≡ n = length-take 64 content ∙ omega arith in
+    ext-getD 0 (take (validLen n) over) (take 64 content) (long ∙ sym short) (λ k h.
+    getD-take (validLen n) over k 0 (omega (arith, long))
+    ∙ rw zero-add at (overwritten-in old 0 (octetAt content) n k (omega (arith, long)) (omega arith))
+    ∙ sym (getD-take 64 content k 0 (omega (arith, long))))
+
+-- a frame's names have 64 octets
+pub record Sized (f : SvFrame) : Type 0 where
+  pub svid : length (f .svid) ≡ 64
+  pub dataset : length (f .«dataset_ref») ≡ 64
+
+named : (b : Bool) (old content : List ℕ) (len : ℕ) → length old ≡ 64
+    → nameOf (cond b (overlaid old content) old) (cond b (validLen (length content)) len) ≡ cond b (take 64 content) (nameOf old len)
+named true old content len h = overlaid-name old content h
+named false old content len h = refl
+
+-- ---- fields
+
+length-overlaid : (old content : List ℕ) → length old ≡ 64 → length (overlaid old content) ≡ 64
+unfolding overlaid
+length-overlaid old content h = length-overwritten old (octetAt content) 0 (validLen (length content)) ∙ h
+
+module _ (f : SvFrame) (s : Sized f) (tag : ℕ) (content : List ℕ) where
+  field-sized : Sized (withField f tag content)
+  unfolding withField
+  field-sized =
+      record {
+        svid = cond-holds (λ (l : List ℕ). length l ≡ 64) (eqb tag 0x80) (length-overlaid (f .svid) content (s .svid)) (s .svid);
+        dataset = cond-holds (λ (l : List ℕ). length l ≡ 64) (eqb tag 0x81) (length-overlaid (f .«dataset_ref») content (s .dataset)) (s .dataset);
+      }
+
+  counts : (c b : Bool) → (c || b) ≡ cond b true c
+  counts true true = refl
+  counts true false = refl
+  counts false true = refl
+  counts false false = refl
+
+  field-read : (counted : Bool) → readingOf (counted || eqb tag 0x82) (withField f tag content) ≡ withRead (readingOf counted f) tag content
+  unfolding withField withRead
+  field-read counted =
+      let a = named (eqb tag 0x80) (f .svid) content (f .«svid_len») (s .svid) in
+      let b = named (eqb tag 0x81) (f .«dataset_ref») content (f .«dataset_ref_len») (s .dataset) in
+      let c = counts counted (eqb tag 0x82) in
+      let g = withField f tag content in
+      λ i. record {
+        source = f .«src_mac»;
+        svid = a i;
+        dataset = b i;
+        «smp_cnt» = g .«smp_cnt»;
+        «smp_rate» = g .«smp_rate»;
+        seconds = g .«t_seconds_since_epoch»;
+        fraction = g .«t_fraction_of_second»;
+        counted = c i;
+      }
+
+-- the fields of an ASDU in their order, as they are read
+unfoldable pub readFrom : SvReading → Elements → ReadSv
+readFrom q ended = ifCounted q
+readFrom q unreadable = refused InvalidInput
+readFrom q (next tag content rest) = cond (fieldFits tag content) (readFrom (withRead q tag content) rest) (refused InvalidInput)
+
+refused-read : parsedReading refusedSv ≡ refused InvalidInput
+unfolding refusedSv
+refused-read = refl
+
+pub fields-read : (f : SvFrame) (counted : Bool) (e : Elements) → Sized f → readFrom (readingOf counted f) e ≡ parsedReading (fieldsFrom f counted e)
+unfolding readFrom fieldsFrom
+fields-read f true ended s = refl
+fields-read f false ended s = sym refused-read
+fields-read f counted unreadable s = sym refused-read
+fields-read f counted (next tag content rest) s =
+    go (fieldFits tag content) _
+    (ap (λ (q : SvReading). readFrom q rest) (sym (field-read f s tag content counted))
+    ∙ fields-read (withField f tag content) (counted || eqb tag 0x82) rest (field-sized f s tag content))
+  where
+    go : (b : Bool) {q : ReadSv} (p : ParsedSv) → q ≡ parsedReading p → cond b q (refused InvalidInput) ≡ parsedReading (cond b p refusedSv)
+    go true p e = e
+    go false p e = sym refused-read
+
+-- ---- the walk
+
+-- an ASDU that is walked up to a place: what was read, with what follows, is the frame
+pub record Walked (asdu : List ℕ) (p : SvPlaces) (at : ℕ) : Type 0 where
+  pub bound : at ≤ length asdu
+  pub whole :
+      (source : List ℕ) (time : ℕ)
+      → readFrom (readingAt source asdu p) (elements (drop at asdu)) ≡ parsedReading (fieldsFrom (emptyFrame source time) false (elements asdu))
+
+empty-sized : (source : List ℕ) (time : ℕ) → Sized (emptyFrame source time)
+empty-sized source time = let zeros = length-replicate {A = ℕ} 64 0 in record { svid = zeros; dataset = zeros }
+
+module _ (asdu : List ℕ) {p : SvPlaces} where
+  pub walked-none : p ≡ noPlaces → Walked asdu p 0
+  walked-none e =
+      record {
+        bound = omega arith;
+        whole = λ source time.
+            ap (λ (p : SvPlaces). readFrom (readingAt source asdu p) (elements asdu)) e
+            ∙ fields-read (emptyFrame source time) false (elements asdu) (empty-sized source time);
+      }
+
+  pub refused-places : (source : List ℕ) → p ≡ noPlaces → placedReading source asdu p ≡ refused InvalidInput
+  refused-places source e = ap (placedReading source asdu) e
+
+  module _ {at : ℕ} (w : Walked asdu p at) where
+    -- at the end all is read
+    pub walked-all :
+        length asdu ≤ at → (source : List ℕ) (time : ℕ)
+        → placedReading source asdu p ≡ parsedReading (fieldsFrom (emptyFrame source time) false (elements asdu))
+    unfolding readFrom
+    walked-all h source time =
+        ap (readFrom (readingAt source asdu p)) (sym (elements-none (drop at asdu) (simp length-drop (omega arith)))) ∙ w .whole source time
+
+    module _ {e : Element} (q : e ≡ element (take (length asdu - at) (drop at asdu))) where
+      there : element (drop at asdu) ≡ e
+      there = ap element (sym (rest-is asdu at)) ∙ sym q
+
+      pub walked-unreadable :
+          at < length asdu → e ≡ Unreadable → (source : List ℕ) (time : ℕ)
+          → refused InvalidInput ≡ parsedReading (fieldsFrom (emptyFrame source time) false (elements asdu))
+      unfolding readFrom
+      walked-unreadable h u source time =
+          ap (readFrom (readingAt source asdu p)) (sym (elements-unreadable (drop at asdu) (simp length-drop (omega arith)) (there ∙ u)))
+          ∙ w .whole source time
+
+      module _ {tag start len end : ℕ} (k : e ≡ Read tag start len end) where
+        -- the element ends within the ASDU, and its content starts there
+        pub walked-within : at < length asdu → (2 ≤ end) × (at + end ≤ length asdu) × (start ≤ end)
+        walked-within h =
+            let b = element-end (drop at asdu) (there ∙ k) in
+            let n = length-drop at asdu in
+            (b .0, omega (arith, b .1, n), b .2)
+
+        read-next : elements (drop at asdu) ≡ next tag (take len (drop (at + start) asdu)) (elements (drop (at + end) asdu))
+        read-next =
+            elements-read (drop at asdu) (there ∙ k)
+            ∙ λ i. next tag (take len (drop-drop start at asdu i)) (elements (drop-drop end at asdu i))
+
+        module _ {content : List ℕ} (c : content ≡ take len (drop (at + start) asdu)) {fits : Bool} (f : fits ≡ fieldFits tag content) where
+          fit : {b : Bool} → fits ≡ b → fieldFits tag (take len (drop (at + start) asdu)) ≡ b
+          fit b = ap (fieldFits tag) (sym c) ∙ sym f ∙ b
+
+          pub walked-unfit :
+              fits ≡ false → (source : List ℕ) (time : ℕ)
+              → refused InvalidInput ≡ parsedReading (fieldsFrom (emptyFrame source time) false (elements asdu))
+          unfolding readFrom
+          walked-unfit n source time =
+              sym (cond-no _ _ (fit n)) ∙ ap (readFrom (readingAt source asdu p)) (sym read-next) ∙ w .whole source time
+
+          pub walked-more :
+              fits ≡ true → at < length asdu → {r : SvPlaces}
+              → ((source : List ℕ) → readingAt source asdu r ≡ withRead (readingAt source asdu p) tag (take len (drop (at + start) asdu)))
+              → Walked asdu r (at + end)
+          unfolding readFrom
+          walked-more y h r =
+              record {
+                bound = walked-within h .1;
+                whole = λ source time.
+                    ap (λ (x : SvReading). readFrom x (elements (drop (at + end) asdu))) (r source)
+                    ∙ sym (cond-yes _ _ (fit y))
+                    ∙ ap (readFrom (readingAt source asdu p)) (sym read-next)
+                    ∙ w .whole source time;
+              }
+
+-- ---- a frame, by what is read of it
+
+module _ (p : ParsedSv) where
+  pub read-frame : {q : SvReading} → read q ≡ parsedReading p → (p .answer ≡ Frame) × (q ≡ readingOf true (p .frame))
+  read-frame {q} e = go (p .frame) (p .answer) e
+    where
+      go : (f : SvFrame) (a : Parsed) → read q ≡ answeredReading f a → (a ≡ Frame) × (q ≡ readingOf true f)
+      go f Frame e = (refl, cc)
+      go f (Error x) e = let z : _≡_ {A = ℕ} 0 1 = cc in absurd (omega arith)
+
+  pub read-error : {x : VsError} → refused x ≡ parsedReading p → p .answer ≡ Error x
+  read-error {x} e = go (p .frame) (p .answer) e
+    where
+      go : (f : SvFrame) (a : Parsed) → refused x ≡ answeredReading f a → a ≡ Error x
+      go f Frame e = let z : _≡_ {A = ℕ} 0 1 = cc in absurd (omega arith)
+      go f (Error y) e = cc

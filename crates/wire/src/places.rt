@@ -1,0 +1,118 @@
+// A sampled-values frame read by positions: where its names stand in the ASDU, and its numbers. No frame is built in between.
+ghost use mathlib.Core.List.{List};
+ghost use mathlib.Core.Path.{_≡_};
+ghost use mathlib.Core.Bool.{false};
+ghost use Prim.Native.Nat.{ℕ};
+ghost use lib.ListN.{take, drop, replicate};
+ghost use Rattle.wire.specs.Element.{elements};
+ghost use Rattle.wire.specs.Places.{noPlaces, readingAt, withRead, placedReading, parsedReading};
+ghost use Rattle.wire.specs.Sv.{overlaid, emptyFrame, fieldsFrom};
+use crate::element::Element;
+use crate::element::content;
+use crate::element::parse_tlv;
+use crate::number::pair_at;
+use crate::sv::field_fits;
+use crate::sv::fraction_or;
+use crate::sv::overlay;
+use crate::sv::rate_or;
+use crate::sv::seconds_or;
+
+// Where the names stand in an ASDU and how long they are, its numbers, and whether it has a count: one without is refused.
+pub struct SvPlaces {
+    pub svid_at: usize,
+    pub svid_len: usize,
+    pub dataset_at: usize,
+    pub dataset_len: usize,
+    pub smp_cnt: u16,
+    pub smp_rate: u16,
+    pub seconds: u32,
+    pub fraction: u32,
+    pub counted: bool,
+}
+
+// No field is read yet, or the ASDU is refused.
+fn no_places() -> SvPlaces
+    ensures { λ r. ⌜ r ≡ noPlaces ⌝ }
+{
+    SvPlaces {
+        svid_at: 0,
+        svid_len: 0,
+        dataset_at: 0,
+        dataset_len: 0,
+        smp_cnt: 0,
+        smp_rate: 0,
+        seconds: 0,
+        fraction: 0,
+        counted: false,
+    }
+}
+
+// The places with one more field, of so many octets from a place of the ASDU on.
+fn with_place(p: SvPlaces, asdu: &[u8], tag: u8, at: usize, len: usize) -> SvPlaces
+    ensures { λ r. ⌜ ((source : List ℕ) → readingAt source (now (asdu .entry)) r
+        ≡ withRead (readingAt source (now (asdu .entry)) p) tag (take len (drop at (now (asdu .entry))))) ⌝ }
+{
+    let mut out = p;
+    if tag == 0x80 {
+        out.svid_at = at;
+        out.svid_len = len;
+        return out;
+    }
+    if tag == 0x81 {
+        out.dataset_at = at;
+        out.dataset_len = len;
+        return out;
+    }
+    let field = content(asdu, at, len);
+    if tag == 0x82 {
+        out.smp_cnt = pair_at(field, 0);
+        out.counted = true;
+        return out;
+    }
+    if tag == 0x84 {
+        out.seconds = seconds_or(p.seconds, field);
+        out.fraction = fraction_or(p.fraction, field);
+        return out;
+    }
+    if tag == 0x86 {
+        out.smp_rate = rate_or(p.smp_rate, field);
+        return out;
+    }
+    p
+}
+
+// The places of an ASDU's fields, one after the other: the frame that they give, read where it stands.
+pub fn sv_places(asdu: &[u8]) -> SvPlaces
+    ensures { λ r. ⌜ ((source : List ℕ) (time : ℕ) → placedReading source (now (asdu .entry)) r
+        ≡ parsedReading (fieldsFrom (emptyFrame source time) false (elements (now (asdu .entry))))) ⌝ }
+{
+    let mut out = no_places();
+    let mut at: usize = 0;
+    while at < asdu.len() {
+        let Element::Read {
+            tag,
+            start,
+            len,
+            end,
+        } = parse_tlv(&asdu[at..])
+        else {
+            return no_places();
+        };
+        let place = at + start;
+        if !field_fits(tag, content(asdu, place, len)) {
+            return no_places();
+        }
+        out = with_place(out, asdu, tag, place, len);
+        at = at + end;
+    }
+    out
+}
+
+// A name's octets, zeros behind its end. They are put there as far as the name goes: with a test for each of 64, a raw inspection takes twice as long.
+pub fn name_octets(name: &[u8]) -> [u8; 64]
+    ensures { λ r. ⌜ r ≡ overlaid (replicate 64 0) (now (name .entry)) ⌝ }
+{
+    let mut out = [0u8; 64];
+    overlay(&mut out, name);
+    out
+}
