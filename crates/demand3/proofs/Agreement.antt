@@ -155,8 +155,8 @@ module _ (m : Monitor) (z : length (m .settings) ≡ 10) where
   pub enforcement-read : (s : RetxSchedule) (b : Bool) → retxEnforce (settingMade m (schedule s b)) ≡ b
   unfolding setRetxSchedule
   enforcement-read s b =
-      rw (getD-set-same (set (set (set (m .settings) 4 (s .«initial_us»)) 5 (s .«t_max_us»)) 6 (s .«tolerance_pct»)) 7 (flagWord b) 0 (simp length-set (omega arith)))
-      (flag-read b)
+      let others = set (set (set (m .settings) 4 (s .«initial_us»)) 5 (s .«t_max_us»)) 6 (s .«tolerance_pct») in
+      rw (getD-set-same others 7 (flagWord b) 0 (simp length-set (omega arith))) (flag-read b)
 
   pub jump-read : (seconds : ℕ) → seconds < 2 ^ 32 → timeMaxForwardJump (settingMade m (maxForwardJump seconds)) ≡ seconds
   unfolding setTimeMaxForwardJump

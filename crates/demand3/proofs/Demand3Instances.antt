@@ -22,14 +22,16 @@ use Rattle.monitor.specs.Settings.{setBlockTestFrames, setSvMaxSmpCntGap, setTi
 use Rattle.inspection.specs.Address.{addressOf}
 use Rattle.inspection.specs.Calls.{Setting, blockTest, maxSmpCntGap, maxForwardJump, newMmsRule, configuredMonitor}
 use Rattle.inspection.specs.InspectSv.{countFindings}
-use Rattle.demand3.specs.Demand3.{Inspection, goose, sv, Legal, answers, rememberedLists, RememberedLists, Premises, EqualLists, SameAnswers, Distinguished}
+use Rattle.demand3.specs.Demand3.{Inspection, goose, sv, Legal, answers}
+use Rattle.demand3.specs.Demand3.{rememberedLists, RememberedLists, Premises, EqualLists, SameAnswers, Distinguished}
 use Rattle.records.proofs.Distinguish.{distinguish-histories, distinguish, distinguished as distinguishedFrom}
 use Rattle.records.proofs.KeyedLists.{difference, absent-key}
 use Rattle.records.proofs.Lists.{getD-constant}
 use Rattle.records.proofs.OctetLaws.{array-zeros}
 use Rattle.demand3.proofs.LegalLaws.{legal-append}
 use Rattle.demand3.proofs.Observables.{sv-separating}
-use Rattle.demand3.proofs.Demand3Holds.{answers-remembered, demand-3, distinguished, further-lists, sv-further, further-of, made, svInspection, svFrameOf}
+use Rattle.demand3.proofs.Demand3Holds.{answers-remembered, demand-3, distinguished, further-lists}
+use Rattle.demand3.proofs.Demand3Holds.{sv-further, further-of, made, svInspection, svFrameOf}
 
 -- ---- frames and settings
 
