@@ -5,7 +5,7 @@ use mathlib.Core.Path.{_≡_, refl, ap, _∙_}
 use native.Mathlib.Numerals.{add-one}
 use native.Mathlib.Omega.{arith}
 use lib.ListN.{length, take, drop}
-use Rattle.records.specs.Name.{octetAt, overwritten}
+use Rattle.records.specs.Octets.{octetAt, overwritten}
 use Rattle.records.proofs.NameLaws.{length-overwritten}
 use Rattle.records.specs.declared.result.InspectResult.{InspectResult}
 use Rattle.monitor.specs.Monitor.{Monitor}

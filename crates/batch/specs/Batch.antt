@@ -3,7 +3,7 @@ use Prim.Native.Nat.{ℕ, zero, suc, _*_, _/_, min}
 use mathlib.Core.List.{List}
 use lib.ListN.{length, take, drop}
 use Rattle.records.specs.declared.frame.SvFrame.{SvFrame}
-use Rattle.records.specs.Name.{octetAt, overwritten}
+use Rattle.records.specs.Octets.{octetAt, overwritten}
 use Rattle.records.specs.Verdict.{verdictOf}
 use Rattle.records.specs.declared.result.InspectResult.{InspectResult}
 use Rattle.monitor.specs.Monitor.{Monitor}

@@ -12,7 +12,8 @@ use Rattle.records.specs.Alert.{denies}
 use Rattle.records.specs.Decide.{decidePair, decideList}
 use Rattle.records.specs.Hash.{fnv1a, hashFrom, hashStep}
 use Rattle.records.specs.Legal.{LegalGoose, LegalSv, OctetArray}
-use Rattle.records.specs.Name.{octetAt, padded, tabulate}
+use Rattle.records.specs.Name.{padded}
+use Rattle.records.specs.Octets.{octetAt, tabulate}
 use Rattle.tables.specs.Column.{zeroWords}
 use Rattle.checks.specs.GooseSeq.{replays}
 use Rattle.checks.specs.SvSeq.{countOutcome, isReplay}

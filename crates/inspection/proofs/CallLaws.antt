@@ -17,7 +17,7 @@ use Rattle.records.specs.declared.result.AlertCounters.{AlertCounters}
 use Rattle.records.specs.declared.result.InspectResult.{InspectResult}
 use Rattle.records.specs.Alert.{sourceMms, sourceGoose, sourceSv}
 use Rattle.records.specs.Counter.{saturated}
-use Rattle.records.specs.Name.{tabulate}
+use Rattle.records.specs.Octets.{tabulate}
 use Rattle.records.specs.Result.{cleanResult}
 use Rattle.tables.specs.Column.{zeroWords}
 use Rattle.wire.specs.declared.sv.Parsed.{Parsed}

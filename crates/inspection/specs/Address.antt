@@ -1,7 +1,7 @@
 -- Source addresses (01, "SV frame": the source address, six octets).
 use Prim.Native.Nat.{ℕ, _+_, _*_, _^_}
 use mathlib.Core.List.{List}
-use Rattle.records.specs.Name.{octetAt}
+use Rattle.records.specs.Octets.{octetAt}
 
 -- an address as a number of 48 bits, the first octet most significant (IEEE 802, EUI-48)
 unfoldable pub addressOf : List ℕ → ℕ

@@ -5,7 +5,7 @@ use Prim.Native.Nat.{ℕ, zero, suc, _+_, _≤_, _<_}
 use native.Mathlib.Omega.{arith}
 use lib.ListN.{length, set, take, drop, replicate, length-replicate, length-drop}
 use lib.Seq.{take-suc, getD-drop}
-use Rattle.records.specs.Name.{octetAt, tabulate, overwritten}
+use Rattle.records.specs.Octets.{octetAt, tabulate, overwritten}
 use Rattle.records.proofs.NameLaws.{overwritten-more, overwritten-whole}
 use Rattle.lent.specs.Octets.{octetsAt}
 

@@ -4,7 +4,7 @@ use mathlib.Core.Bool.{not}
 use mathlib.Core.List.{List}
 use lib.Dec.{eqb}
 use Rattle.records.specs.declared.frame.MmsFrame.{MmsFrame}
-use Rattle.records.specs.Name.{octetAt}
+use Rattle.records.specs.Octets.{octetAt}
 use Rattle.records.specs.Service.{serviceOf}
 use Rattle.lent.specs.Octets.{octetsAt, number32, number64}
 

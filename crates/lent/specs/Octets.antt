@@ -1,7 +1,7 @@
 -- The fields of a struct in the octets that C lays it out in; numbers stand least significant octet first.
 use Prim.Native.Nat.{ℕ, _+_, _*_}
 use mathlib.Core.List.{List}
-use Rattle.records.specs.Name.{octetAt, tabulate}
+use Rattle.records.specs.Octets.{octetAt, tabulate}
 
 -- n octets from a place on
 abbrev pub octetsAt : List ℕ → ℕ → ℕ → List ℕ

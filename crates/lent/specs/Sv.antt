@@ -2,7 +2,7 @@
 use Prim.Native.Nat.{ℕ}
 use mathlib.Core.List.{List}
 use Rattle.records.specs.declared.frame.SvFrame.{SvFrame}
-use Rattle.records.specs.Name.{octetAt}
+use Rattle.records.specs.Octets.{octetAt}
 use Rattle.lent.specs.Octets.{octetsAt, number16, number32, number64}
 
 -- the frame whose fields stand each at its place

@@ -6,7 +6,7 @@ use mathlib.Core.Path.{_≡_, ap, _∙_}
 use borrow.Rule.Slice.PartMut.{putMid}
 use lib.ListN.{length}
 use Rattle.records.specs.declared.schedule.RetxSchedule.{RetxSchedule}
-use Rattle.records.specs.Name.{tabulate}
+use Rattle.records.specs.Octets.{tabulate}
 use Rattle.records.specs.Schedule.{defaultSchedule}
 use Rattle.tables.specs.Column.{zeroWords}
 use Rattle.tables.specs.Order.{noEntries}

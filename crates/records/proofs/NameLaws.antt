@@ -13,7 +13,8 @@ use lib.Dec.{eqb, ltb}
 use lib.ListN.{length, getD, set, drop, List·getD-append, length-append, length-set, drop-of-length-le}
 use lib.Seq.{drop-cons, set-at, set-out, set-getD, getD-at, getD-take, getD-set-same, getD-set-other, length-take-le, ext-getD}
 use Rattle.records.proofs.Booleans.{cond-yes, and-true, and-false, and-no, and-both}
-use Rattle.records.specs.Name.{validLen, nameOf, tabulate, octetAt, padded, agree, overwritten}
+use Rattle.records.specs.Name.{validLen, nameOf, padded}
+use Rattle.records.specs.Octets.{tabulate, octetAt, agree, overwritten}
 
 module _ (f g : ℕ → ℕ) (i : ℕ) where
   pub agree-more : f i ≡ g i → agree f g (i + 1) ≡ agree f g i

@@ -12,7 +12,8 @@ use Rattle.records.proofs.Booleans.{cond-holds}
 use Rattle.records.proofs.Lists.{getD-constant}
 use Rattle.records.proofs.NameLaws.{length-tabulate, tabulate-at, length-overwritten}
 use Rattle.records.specs.Legal.{Octets, OctetArray}
-use Rattle.records.specs.Name.{tabulate, octetAt, padded, overwritten}
+use Rattle.records.specs.Name.{padded}
+use Rattle.records.specs.Octets.{tabulate, octetAt, overwritten}
 
 pub octets-none : Octets []
 octets-none k = omega arith

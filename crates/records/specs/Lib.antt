@@ -9,6 +9,7 @@ pub mod Schedule
 pub mod Hash
 pub mod Bucket
 pub mod Search
+pub mod Octets
 pub mod Name
 pub mod Legal
 pub mod Remembered

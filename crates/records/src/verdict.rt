@@ -3,7 +3,7 @@
 ghost use Prim.Native.Nat.{_+_, _≤_};
 ghost use mathlib.Core.Path.{_≡_};
 ghost use lib.ListN.{length};
-ghost use Rattle.records.specs.Name.{octetAt, overwritten};
+ghost use Rattle.records.specs.Octets.{octetAt, overwritten};
 
 // Puts the first `n` octets of a verdict from a place on.
 fn put_first(verdicts: &mut [u8], at: usize, verdict: [u8; 8], n: usize)

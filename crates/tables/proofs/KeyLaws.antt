@@ -12,7 +12,8 @@ use Rattle.records.proofs.Booleans.{cond-yes, cond-no}
 use Rattle.records.proofs.NameLaws.{tabulate-at, tabulate-same, padded-at, length-name}
 use Rattle.records.proofs.OctetLaws.{octets-take}
 use Rattle.records.specs.Legal.{Octets, OctetArray}
-use Rattle.records.specs.Name.{validLen, nameOf, tabulate, octetAt, padded, overwritten}
+use Rattle.records.specs.Name.{validLen, nameOf, padded}
+use Rattle.records.specs.Octets.{tabulate, octetAt, overwritten}
 use Rattle.tables.proofs.PackedLaws.{packed-same, packed-octet}
 use Rattle.tables.specs.Key.{nameWord, summed, keyOf}
 use Rattle.tables.specs.Packed.{packed, octetOf}

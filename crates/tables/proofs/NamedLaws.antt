@@ -9,7 +9,7 @@ use lib.ListN.{getD, set}
 use lib.Seq.{set-getD}
 use Rattle.records.proofs.Booleans.{cond-yes, and-both, and-yes, and-no}
 use Rattle.records.proofs.NameLaws.{agree-at, overwritten-again}
-use Rattle.records.specs.Name.{agree, overwritten}
+use Rattle.records.specs.Octets.{agree, overwritten}
 use Rattle.tables.specs.Named.{hasKey, keyStored}
 
 -- the ways that a comparison of keys goes

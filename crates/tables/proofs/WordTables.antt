@@ -16,7 +16,7 @@ use Rattle.records.proofs.Booleans.{cond-yes, cond-no, and-yes}
 use Rattle.records.proofs.NameLaws.{length-tabulate, tabulate-at, tabulate-same, agree-all, length-overwritten, overwritten-in, overwritten-out}
 use Rattle.records.proofs.SearchLaws.{Searched, hit, miss, searched}
 use Rattle.records.specs.declared.search.Found.{Found}
-use Rattle.records.specs.Name.{tabulate, overwritten}
+use Rattle.records.specs.Octets.{tabulate, overwritten}
 use Rattle.records.specs.Remembered.{without, after}
 use Rattle.tables.proofs.NamedLaws.{name-decides, has-key}
 use Rattle.tables.proofs.OrderLaws.{rank-same, free-rank, used-only, used-rank, forgotten-only, forgotten-rank}

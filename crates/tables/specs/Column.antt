@@ -4,7 +4,7 @@ use mathlib.Core.Bool.{cond}
 use mathlib.Core.List.{List}
 use lib.Dec.{ltb}
 use lib.ListN.{getD, set}
-use Rattle.records.specs.Name.{tabulate}
+use Rattle.records.specs.Octets.{tabulate}
 
 -- the word of a slot in the column that begins at a place; a slot of 16 or more has 0
 unfoldable pub wordOf : List ℕ → ℕ → ℕ → ℕ

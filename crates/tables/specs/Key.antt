@@ -3,7 +3,7 @@
 use Prim.Native.Nat.{ℕ, zero, suc, _+_, _*_, _%_, _^_}
 use mathlib.Core.List.{List, _∷_}
 use lib.ListN.{length, replicate}
-use Rattle.records.specs.Name.{tabulate, octetAt}
+use Rattle.records.specs.Octets.{tabulate, octetAt}
 use Rattle.tables.specs.Packed.{packed}
 
 -- word k of a name: its octets from 8 × k on, zeros behind its end

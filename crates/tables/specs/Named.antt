@@ -6,7 +6,7 @@ use mathlib.Core.Bool.{Bool, _&&_, cond}
 use mathlib.Core.List.{List}
 use lib.Dec.{eqb, ltb}
 use lib.ListN.{getD, set}
-use Rattle.records.specs.Name.{agree, overwritten}
+use Rattle.records.specs.Octets.{agree, overwritten}
 use Rattle.tables.specs.Place.{KeyColumns}
 
 -- whether a slot has this key, in key columns from a start on; a slot of 16 or more has none

@@ -7,7 +7,7 @@ use mathlib.Core.List.{List}
 use lib.Dec.{eqb, ltb, leb}
 use lib.ListN.{getD, set}
 use Rattle.records.specs.declared.search.Found.{Found}
-use Rattle.records.specs.Name.{tabulate}
+use Rattle.records.specs.Octets.{tabulate}
 use Rattle.records.specs.Search.{first, firstFrom, slotOr}
 use Rattle.tables.specs.Packed.{packed, updated}
 

@@ -1,7 +1,8 @@
 // Keys of tables by name: a number and a name of at most 64 octets as ten words.
 ghost use mathlib.Core.Path.{_≡_};
 ghost use Prim.Native.Nat.{_+_, _*_, _%_, _^_, _≤_};
-ghost use Rattle.records.specs.Name.{nameOf, octetAt};
+ghost use Rattle.records.specs.Name.{nameOf};
+ghost use Rattle.records.specs.Octets.{octetAt};
 ghost use Rattle.tables.specs.Key.{keyOf};
 ghost use Rattle.tables.specs.Packed.{packed};
 use records::name::padded;

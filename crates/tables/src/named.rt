@@ -2,7 +2,7 @@
 ghost use mathlib.Core.Path.{_≡_};
 ghost use Prim.Native.Nat.{_+_, _≤_};
 ghost use lib.ListN.{length, getD};
-ghost use Rattle.records.specs.Name.{agree, overwritten};
+ghost use Rattle.records.specs.Octets.{agree, overwritten};
 ghost use Rattle.tables.specs.Named.{hasKey, keyStored, named};
 ghost use Rattle.tables.specs.Place.{found, entered};
 use crate::order::new_slot;

@@ -12,7 +12,7 @@ use lib.Seq.{take-all}
 use Rattle.records.proofs.Booleans.{cond-holds}
 use Rattle.records.proofs.OctetLaws.{octets-none, octets-drop}
 use Rattle.records.specs.Legal.{Octets}
-use Rattle.records.specs.Name.{octetAt}
+use Rattle.records.specs.Octets.{octetAt}
 use Rattle.wire.specs.declared.element.Length.{Length}
 use Rattle.wire.specs.declared.element.Length.the-variants.{Definite, Refused}
 use Rattle.wire.specs.declared.element.Element.{Element}

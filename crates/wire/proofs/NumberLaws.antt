@@ -11,7 +11,7 @@ use lib.Dec.{leb}
 use lib.ListN.{length, take, drop, length-take, drop-of-length-le}
 use lib.Seq.{drop-cons, getD-take, take-all}
 use Rattle.records.specs.Legal.{Octets}
-use Rattle.records.specs.Name.{octetAt}
+use Rattle.records.specs.Octets.{octetAt}
 use Rattle.wire.specs.Number.{bigEndianFrom, bigEndian, unsignedInt}
 use Rattle.wire.specs.declared.number.Unsigned.the-variants.{Value, Refused}
 

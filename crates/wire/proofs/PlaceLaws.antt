@@ -13,7 +13,8 @@ use Rattle.records.proofs.NameLaws.{length-overwritten, overwritten-in}
 use Rattle.records.specs.declared.error.VsError.{VsError}
 use Rattle.records.specs.declared.error.VsError.the-variants.{InvalidInput}
 use Rattle.records.specs.declared.frame.SvFrame.{SvFrame}
-use Rattle.records.specs.Name.{validLen, nameOf, octetAt, overwritten}
+use Rattle.records.specs.Name.{validLen, nameOf}
+use Rattle.records.specs.Octets.{octetAt, overwritten}
 use Rattle.wire.specs.declared.element.Element.{Element}
 use Rattle.wire.specs.declared.element.Element.the-variants.{Read, Unreadable}
 use Rattle.wire.specs.declared.sv.Parsed.{Parsed}

@@ -11,7 +11,7 @@ use Rattle.records.proofs.Booleans.{cond-holds}
 use Rattle.records.proofs.OctetLaws.{array-tabulate, array-overwritten, array-zeros}
 use Rattle.records.specs.declared.frame.SvFrame.{SvFrame}
 use Rattle.records.specs.Legal.{Octets, OctetArray, LegalSv}
-use Rattle.records.specs.Name.{octetAt}
+use Rattle.records.specs.Octets.{octetAt}
 use Rattle.wire.specs.declared.header.Apdu.{Apdu}
 use Rattle.wire.specs.declared.header.Apdu.the-variants.{At, Refused}
 use Rattle.wire.specs.declared.number.Unsigned.the-variants as unsigned

@@ -5,7 +5,7 @@ use mathlib.Core.List.{List, [], _∷_}
 use lib.Dec.{eqb, leb}
 use lib.ListN.{length, replicate}
 use Rattle.records.specs.declared.error.VsError.the-variants.{InvalidInput}
-use Rattle.records.specs.Name.{tabulate, octetAt}
+use Rattle.records.specs.Octets.{tabulate, octetAt}
 use Rattle.records.specs.Row.{errorRow}
 use Rattle.wire.specs.declared.header.Apdu.{Apdu}
 use Rattle.wire.specs.declared.header.Apdu.the-variants.{At, Refused}

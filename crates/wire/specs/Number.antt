@@ -5,7 +5,7 @@ use mathlib.Core.List.{List, [], _∷_}
 use lib.Dec.{leb}
 use lib.ListN.{length}
 use Rattle.records.specs.declared.error.VsError.the-variants.{InvalidInput}
-use Rattle.records.specs.Name.{octetAt}
+use Rattle.records.specs.Octets.{octetAt}
 use Rattle.records.specs.Row.{errorRow}
 use Rattle.wire.specs.declared.number.Unsigned.{Unsigned}
 use Rattle.wire.specs.declared.number.Unsigned.the-variants.{Value, Refused}

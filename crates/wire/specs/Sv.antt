@@ -7,7 +7,8 @@ use lib.ListN.{length, take, drop}
 use Rattle.records.specs.declared.error.VsError.the-variants.{InvalidInput}
 use Rattle.records.specs.declared.frame.SvFrame.{SvFrame}
 use Rattle.records.specs.Frame.{defaultSv}
-use Rattle.records.specs.Name.{validLen, octetAt, overwritten}
+use Rattle.records.specs.Name.{validLen}
+use Rattle.records.specs.Octets.{octetAt, overwritten}
 use Rattle.records.specs.Row.{errorRow}
 use Rattle.wire.specs.declared.number.Unsigned.{Unsigned}
 use Rattle.wire.specs.declared.number.Unsigned.the-variants as unsigned

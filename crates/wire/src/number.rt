@@ -3,7 +3,7 @@
 ghost use mathlib.Core.Path.{_≡_};
 ghost use Prim.Native.Nat.{min};
 ghost use lib.ListN.{take};
-ghost use Rattle.records.specs.Name.{octetAt};
+ghost use Rattle.records.specs.Octets.{octetAt};
 ghost use Rattle.wire.specs.Number.{bigEndian, pairAt, unsignedInt};
 
 // The octet at a place, 0 past the end.

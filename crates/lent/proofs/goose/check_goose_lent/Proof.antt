@@ -1,7 +1,8 @@
 -- `check_goose_lent` meets its contract.
 use mathlib.Core.Path.{_∙_}
 use borrow.Author.Needs.{needs}
-use Rattle.records.specs.Name.{octetAt, nameOf}
+use Rattle.records.specs.Name.{nameOf}
+use Rattle.records.specs.Octets.{octetAt}
 use Rattle.monitor.specs.Monitor.{monitorOf}
 use Rattle.inspection.proofs.StageLaws.{counted-checked}
 use Rattle.inspection.specs.InspectGoose.{gooseReadBy, gooseRead, gooseTest}

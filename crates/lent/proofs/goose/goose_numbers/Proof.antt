@@ -5,7 +5,8 @@ use native.Mathlib.Omega.{arith}
 use borrow.Author.Needs.{needs}
 use lib.Dec.{eqb}
 use Rattle.records.specs.Hash.{fnv1a}
-use Rattle.records.specs.Name.{nameOf, octetAt}
+use Rattle.records.specs.Name.{nameOf}
+use Rattle.records.specs.Octets.{octetAt}
 use Rattle.inspection.specs.Address.{addressOf}
 use Rattle.lent.specs.Goose.{gooseFrameOf}
 use Rattle.lent.proofs.OctetLaws.{part-octets}

@@ -3,7 +3,7 @@ use mathlib.Core.Path.{ap, _∙_}
 use mathlib.Core.Bool.{not}
 use borrow.Author.Needs.{needs}
 use lib.Dec.{eqb}
-use Rattle.records.specs.Name.{octetAt}
+use Rattle.records.specs.Octets.{octetAt}
 use Rattle.records.specs.Service.{serviceNumber, isWrite}
 use Rattle.lent.specs.Mms.{mmsFrameOf}
 use Rattle.lent.proofs.mms.mms_numbers.Statement.{statement}

@@ -8,7 +8,8 @@ use native.Mathlib.Omega.{arith}
 use borrow.Author.Tests.{lt-ltb, le-ltb}
 use lib.Dec.{ltb}
 use lib.ListN.{getD, replicate}
-use Rattle.records.specs.Name.{tabulate, octetAt, overwritten, padded}
+use Rattle.records.specs.Name.{padded}
+use Rattle.records.specs.Octets.{tabulate, octetAt, overwritten}
 use Rattle.records.proofs.Booleans.{cond-yes, cond-no}
 use Rattle.records.proofs.NameLaws.{tabulate-at, overwritten-more, overwritten-whole}
 use Rattle.records.proofs.name.padded.Statement.{statement}

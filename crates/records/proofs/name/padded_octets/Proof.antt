@@ -7,7 +7,8 @@ use native.Mathlib.Omega.{arith}
 use borrow.Author.Tests.{lt-ltb, le-ltb}
 use lib.Dec.{ltb}
 use lib.ListN.{length, replicate}
-use Rattle.records.specs.Name.{octetAt, overwritten, padded}
+use Rattle.records.specs.Name.{padded}
+use Rattle.records.specs.Octets.{octetAt, overwritten}
 use Rattle.records.proofs.Booleans.{cond-yes, cond-no}
 use Rattle.records.proofs.NameLaws.{overwritten-more, overwritten-whole}
 use Rattle.records.proofs.name.padded_octets.Statement.{statement}

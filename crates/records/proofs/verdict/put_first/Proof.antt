@@ -4,7 +4,7 @@ use Prim.Native.Nat.{_≤_, _-_}
 use native.Mathlib.Omega.{arith}
 use borrow.Author.Needs.{needs}
 use lib.ListN.{length}
-use Rattle.records.specs.Name.{octetAt, overwritten}
+use Rattle.records.specs.Octets.{octetAt, overwritten}
 use Rattle.records.proofs.NameLaws.{overwritten-more, length-overwritten}
 use Rattle.records.proofs.verdict.put_first.Statement.{statement}
 use Rattle.records.proofs.verdict.put_first.Tie as tie

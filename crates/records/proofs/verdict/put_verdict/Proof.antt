@@ -2,7 +2,7 @@
 use mathlib.Core.Path.{sym, _∙_}
 use native.Mathlib.Omega.{arith}
 use borrow.Author.Needs.{needs}
-use Rattle.records.specs.Name.{octetAt}
+use Rattle.records.specs.Octets.{octetAt}
 use Rattle.records.proofs.NameLaws.{overwritten-past, overwritten-none}
 use Rattle.records.proofs.verdict.put_verdict.Statement.{statement}
 use Rattle.records.proofs.verdict.put_verdict.Tie as tie

@@ -2,7 +2,7 @@
 use mathlib.Core.Path.{_≡_, refl, _∙_}
 use Prim.Native.Nat.{_≤_, _-_}
 use lib.ListN.{length, length-set}
-use Rattle.records.specs.Name.{overwritten}
+use Rattle.records.specs.Octets.{overwritten}
 use Rattle.tables.specs.Column.{zeroWords}
 use Rattle.records.proofs.NameLaws.{overwritten-more, overwritten-whole}
 use native.Mathlib.Omega.{arith}

@@ -6,7 +6,7 @@ use native.Mathlib.Omega.{arith}
 use borrow.Author.Needs.{needs}
 use lib.ListN.{length, replicate}
 use Rattle.records.proofs.NameLaws.{overwritten-more}
-use Rattle.records.specs.Name.{octetAt, overwritten}
+use Rattle.records.specs.Octets.{octetAt, overwritten}
 use Rattle.tables.proofs.KeyLaws.{key-of-frame, empty-key}
 use Rattle.tables.specs.Packed.{packed}
 use Rattle.tables.proofs.key.name_key.Statement.{statement}

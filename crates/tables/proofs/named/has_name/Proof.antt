@@ -3,7 +3,7 @@ use mathlib.Core.Path.{_≡_, refl, sym, _∙_}
 use mathlib.Core.Bool.{true}
 use Prim.Native.Nat.{_≤_, _-_, _+_}
 use lib.ListN.{getD}
-use Rattle.records.specs.Name.{agree}
+use Rattle.records.specs.Octets.{agree}
 use Rattle.records.proofs.NameLaws.{agree-more, agree-no}
 use native.Mathlib.Omega.{arith}
 use Rattle.tables.proofs.named.has_name.Statement.{statement}

@@ -2,7 +2,7 @@
 use mathlib.Core.Path.{_≡_, refl}
 use Prim.Native.Nat.{_≤_, _-_, _+_}
 use lib.ListN.{length, getD, length-set}
-use Rattle.records.specs.Name.{overwritten}
+use Rattle.records.specs.Octets.{overwritten}
 use Rattle.records.proofs.NameLaws.{overwritten-more}
 use native.Mathlib.Omega.{arith}
 use Rattle.tables.proofs.named.store_name.Statement.{statement}

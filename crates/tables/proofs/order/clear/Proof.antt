@@ -6,7 +6,7 @@ use Prim.Native.Nat.{_≤_, _-_}
 use lib.Dec.{ltb}
 use lib.ListN.{length, length-set}
 use borrow.Author.Tests.{lt-ltb, le-ltb}
-use Rattle.records.specs.Name.{overwritten}
+use Rattle.records.specs.Octets.{overwritten}
 use Rattle.tables.specs.Order.{freeWord, noEntries}
 use Rattle.records.proofs.NameLaws.{overwritten-more, overwritten-whole}
 use Rattle.records.proofs.Booleans.{cond-yes, cond-no}

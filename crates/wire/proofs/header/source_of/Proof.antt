@@ -1,6 +1,6 @@
 -- `source_of` meets its contract.
 use mathlib.Core.List.{[], _∷_}
-use Rattle.records.specs.Name.{tabulate}
+use Rattle.records.specs.Octets.{tabulate}
 use Rattle.wire.specs.Header.{sourceOf}
 use borrow.Author.Needs.{needs}
 use Rattle.wire.proofs.header.source_of.Statement.{statement}

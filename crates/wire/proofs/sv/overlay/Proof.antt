@@ -4,7 +4,8 @@ use borrow.Author.Needs.{needs}
 use mathlib.Core.Path.{_≡_, refl}
 use Prim.Native.Nat.{_≤_, _-_}
 use lib.ListN.{length}
-use Rattle.records.specs.Name.{validLen, octetAt, overwritten}
+use Rattle.records.specs.Name.{validLen}
+use Rattle.records.specs.Octets.{octetAt, overwritten}
 use Rattle.records.proofs.NameLaws.{overwritten-more}
 use Rattle.wire.specs.Sv.{overlaid}
 use Rattle.wire.proofs.sv.overlay.Statement.{statement}
