@@ -1,15 +1,15 @@
 -- Laws of a raw frame that is read where it stands: what the checks read of it, and the verdict.
 use Prim.Native.Nat.{ℕ, _-_}
-use mathlib.Core.Bool.{true, false}
+use mathlib.Core.Bool.{false}
 use mathlib.Core.List.{List}
 use mathlib.Core.Path.{_≡_, refl, sym, ap, _∙_}
 use lib.ListN.{length, take, drop, replicate, length-replicate}
+use Rattle.records.specs.declared.error.VsError.{VsError}
 use Rattle.records.specs.declared.error.VsError.the-variants.{InvalidInput}
 use Rattle.records.specs.Alert.{sourceSv, noAlert, alertOf}
 use Rattle.records.specs.Name.{validLen, nameOf}
 use Rattle.records.specs.Result.{cleanResult}
 use Rattle.records.specs.Verdict.{verdictOf}
-use Rattle.records.proofs.Booleans.{cond-yes, cond-no}
 use Rattle.wire.specs.declared.header.Apdu.{Apdu}
 use Rattle.wire.specs.declared.header.Apdu.the-variants.{At, Refused}
 use Rattle.wire.specs.declared.header.Header.{Header}
@@ -17,11 +17,15 @@ use Rattle.wire.specs.declared.places.SvPlaces.{SvPlaces}
 use Rattle.wire.specs.declared.sv.Parsed.{Parsed}
 use Rattle.wire.specs.declared.sv.Parsed.the-variants.{Frame, Error}
 use Rattle.wire.specs.declared.sv.ParsedSv.{ParsedSv}
-use Rattle.wire.specs.Element.{elements}
+use Rattle.wire.specs.declared.element.Part.{Part}
+use Rattle.wire.specs.declared.element.Part.the-variants as part
+use Rattle.wire.specs.Element.{elements, partOf}
+use Rattle.wire.specs.Field.{overlaid}
 use Rattle.wire.specs.Header.{header}
-use Rattle.wire.specs.Places.{SvReading, readingAt, placedReading, parsedReading}
-use Rattle.wire.specs.Sv.{refusedSv, overlaid, fieldsFrom, emptyFrame, asduOf, apduFrame, headerFrame, svFrame}
+use Rattle.wire.specs.Places.{SvReading, readingAt, answered, placedReading, parsedReading}
+use Rattle.wire.specs.Sv.{refusedSv, fieldsFrom, emptyFrame, asduOf, apduFrame, apduAt, headedFrame, svFrame}
 use Rattle.wire.proofs.PlaceLaws.{overlaid-name, read-frame, read-error}
+use Rattle.wire.proofs.SvLaws.{NoPart, frame-none, frame-at}
 use Rattle.checks.specs.Keys.{plainKey}
 use Rattle.monitor.specs.Monitor.{Monitor}
 use Rattle.monitor.specs.Parts.{After}
@@ -34,9 +38,9 @@ use Rattle.lent.specs.declared.raw.RawVerdict.{RawVerdict}
 use Rattle.lent.specs.Raw.{withRawVerdict, parsedInspected, refusedVerdict, readNumbers, checkedReading}
 
 -- the verdict on an unreadable frame: not allowed, and no alert
-zeros-refuse : refusedVerdict .verdict ≡ verdictOf (withAllowed (cleanResult sourceSv) false)
+zeros-refuse : (a : Parsed) → refusedVerdict a .verdict ≡ verdictOf (withAllowed (cleanResult sourceSv) false)
 unfolding verdictOf cleanResult noAlert alertOf
-zeros-refuse = refl
+zeros-refuse a = refl
 
 -- ---- what the checks read
 
@@ -63,11 +67,11 @@ module _ (m : Monitor) (p : ParsedSv) where
   answered-by e = ap (λ (a : Parsed). withRawVerdict (rawInspected m a (p .frame))) (sym e)
 
   raw-refused :
-      {r : RawVerdict} → r ≡ refusedVerdict → p .answer ≡ Error InvalidInput
+      {x : VsError} {r : RawVerdict} → r ≡ refusedVerdict (Error x) → p .answer ≡ Error x
       → record { monitor = m; answer = r } ≡ withRawVerdict (parsedInspected m p)
-  raw-refused r e =
+  raw-refused {x = x} r e =
       (λ i. record { monitor = m; answer = r i })
-      ∙ (λ i. record { monitor = m; answer = record { answer = Error InvalidInput; verdict = zeros-refuse i } })
+      ∙ (λ i. record { monitor = m; answer = record { answer = Error x; verdict = zeros-refuse (Error x) i } })
       ∙ answered-by e
 
   raw-inspected :
@@ -75,27 +79,41 @@ module _ (m : Monitor) (p : ParsedSv) where
       → record { monitor = after; answer = record { answer = Frame; verdict = verdict } } ≡ withRawVerdict (parsedInspected m p)
   raw-inspected e v = (λ i. record { monitor = v i .monitor; answer = record { answer = Frame; verdict = v i .answer } }) ∙ answered-by e
 
+-- an APDU without an ASDU
+pub asdu-refused :
+    (m : Monitor) (apdu source : List ℕ) (time : ℕ) (r : Part) → partOf apdu r ≡ asduOf apdu → NoPart r → {v : RawVerdict} → v ≡ refusedVerdict (Error InvalidInput)
+    → record { monitor = m; answer = v } ≡ withRawVerdict (parsedInspected m (apduFrame apdu source time))
+unfolding refusedSv
+asdu-refused m apdu source time r e n v =
+    let p = apduFrame apdu source time in
+    raw-refused m p v (ap (λ (p : ParsedSv). p .answer) (sym (frame-none apdu source time r e n)))
+
 -- by the places of its ASDU
-module _ (m : Monitor) (apdu source : List ℕ) (time : ℕ) {asdu : List ℕ} (a : asdu ≡ asduOf apdu) (places : SvPlaces)
+module _
+    (m : Monitor) (apdu source : List ℕ) (time : ℕ) (r : Part) (a : partOf apdu r ≡ asduOf apdu) {start len : ℕ} (k : r ≡ part.At start len)
+    {asdu : List ℕ} (c : asdu ≡ take len (drop start apdu)) (places : SvPlaces)
     (e : placedReading source asdu places ≡ parsedReading (fieldsFrom (emptyFrame source time) false (elements asdu))) where
-  reading : placedReading source asdu places ≡ parsedReading (apduFrame apdu source time)
-  unfolding apduFrame
-  reading = e ∙ ap (λ (l : List ℕ). parsedReading (fieldsFrom (emptyFrame source time) false (elements l))) a
+  reading : {x : Parsed} → places .answer ≡ x → answered (readingAt source asdu places) x ≡ parsedReading (apduFrame apdu source time)
+  reading h =
+      ap (answered (readingAt source asdu places)) (sym h)
+      ∙ e
+      ∙ ap (λ (l : List ℕ). parsedReading (fieldsFrom (emptyFrame source time) false (elements l))) c
+      ∙ ap parsedReading (frame-at apdu source time r a k)
 
   pub places-refused :
-      places .counted ≡ false → {r : RawVerdict} → r ≡ refusedVerdict
-      → record { monitor = m; answer = r } ≡ withRawVerdict (parsedInspected m (apduFrame apdu source time))
-  places-refused h r = let p = apduFrame apdu source time in raw-refused m p r (read-error p (sym (cond-no _ _ h) ∙ reading))
+      {x : VsError} → places .answer ≡ Error x → {v : RawVerdict} → v ≡ refusedVerdict (places .answer)
+      → record { monitor = m; answer = v } ≡ withRawVerdict (parsedInspected m (apduFrame apdu source time))
+  places-refused h v = let p = apduFrame apdu source time in raw-refused m p (v ∙ ap refusedVerdict h) (read-error p (reading h))
 
   pub places-inspected :
-      places .counted ≡ true → {c : Checked} → c ≡ checkedReading m (readingAt source asdu places) → {after : Monitor} {verdict : List ℕ}
+      places .answer ≡ Frame → {c : Checked} → c ≡ checkedReading m (readingAt source asdu places) → {after : Monitor} {verdict : List ℕ}
       → ((source number time : ℕ) → record { monitor = after; answer = verdict } ≡ withVerdict (reported source number time c))
       → record { monitor = after; answer = record { answer = Frame; verdict = verdict } }
       ≡ withRawVerdict (parsedInspected m (apduFrame apdu source time))
   unfolding inspectSv
   places-inspected h k v =
       let p = apduFrame apdu source time in
-      let r = read-frame p (sym (cond-yes _ _ h) ∙ reading) in
+      let r = read-frame p (reading h) in
       let f = p .frame in
       raw-inspected m p (r .0)
       (v sourceSv (f .«smp_cnt») (f .«timestamp_us»)
@@ -103,21 +121,21 @@ module _ (m : Monitor) (apdu source : List ℕ) (time : ℕ) {asdu : List ℕ} (
 
 -- by the header
 module _ (m : Monitor) (octets : List ℕ) (time : ℕ) {found : Header} (e : found ≡ header 0x88BA octets) {a : Apdu} (h : found .apdu ≡ a) where
-  by-header : headerFrame octets time (found .«src_mac») a ≡ svFrame octets time
+  by-header : apduAt octets time (found .«src_mac») a ≡ svFrame octets time
   unfolding svFrame
-  by-header = ap (headerFrame octets time (found .«src_mac»)) (sym h) ∙ λ i. headerFrame octets time (e i .«src_mac») (e i .apdu)
+  by-header = ap (apduAt octets time (found .«src_mac»)) (sym h) ∙ ap (headedFrame octets time) e
 
   header-inspected :
-      withRawVerdict (parsedInspected m (headerFrame octets time (found .«src_mac») a)) ≡ withRawVerdict (inspectRawSv m octets time)
+      withRawVerdict (parsedInspected m (apduAt octets time (found .«src_mac») a)) ≡ withRawVerdict (inspectRawSv m octets time)
   unfolding inspectRawSv
   header-inspected = ap (λ (p : ParsedSv). withRawVerdict (parsedInspected m p)) by-header
 
 module _ (m : Monitor) (octets : List ℕ) (time : ℕ) {found : Header} (e : found ≡ header 0x88BA octets) where
   pub header-refused :
-      found .apdu ≡ Refused → {r : RawVerdict} → r ≡ refusedVerdict
+      found .apdu ≡ Refused → {r : RawVerdict} → r ≡ refusedVerdict (Error InvalidInput)
       → record { monitor = m; answer = r } ≡ withRawVerdict (inspectRawSv m octets time)
   unfolding refusedSv
-  header-refused h r = raw-refused m refusedSv r refl ∙ header-inspected m octets time e h
+  header-refused h r = raw-refused m (refusedSv InvalidInput) r refl ∙ header-inspected m octets time e h
 
   pub header-found :
       {start end : ℕ} → found .apdu ≡ At start end → {apdu : List ℕ} → apdu ≡ take (end - start) (drop start octets)

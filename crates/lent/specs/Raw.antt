@@ -1,9 +1,8 @@
 -- The verdict on a raw SV frame that is read where it stands.
 use Prim.Native.Nat.{ℕ}
 use mathlib.Core.List.{[], _∷_}
-use Rattle.records.specs.declared.error.VsError.the-variants.{InvalidInput}
 use Rattle.records.specs.Verdict.{verdictOf}
-use Rattle.wire.specs.declared.sv.Parsed.the-variants.{Error}
+use Rattle.wire.specs.declared.sv.Parsed.{Parsed}
 use Rattle.wire.specs.declared.sv.ParsedSv.{ParsedSv}
 use Rattle.wire.specs.Places.{SvReading}
 use Rattle.checks.specs.Keys.{plainKey}
@@ -27,9 +26,9 @@ withRawVerdict a = record { monitor = a .monitor; answer = record { answer = a .
 abbrev pub parsedInspected : Monitor → ParsedSv → After RawSv
 parsedInspected m p = rawInspected m (p .answer) (p .frame)
 
--- not allowed, and no alert
-abbrev pub refusedVerdict : RawVerdict
-refusedVerdict = record { answer = Error InvalidInput; verdict = 0 ∷ 0 ∷ 0 ∷ 0 ∷ 0 ∷ 0 ∷ 0 ∷ 0 ∷ [] }
+-- an error, not allowed, and no alert
+abbrev pub refusedVerdict : Parsed → RawVerdict
+refusedVerdict answer = record { answer = answer; verdict = 0 ∷ 0 ∷ 0 ∷ 0 ∷ 0 ∷ 0 ∷ 0 ∷ 0 ∷ [] }
 
 -- the numbers among what is read of a frame, and the frame counted and checked by what is read of it
 abbrev pub readNumbers : ℕ → SvReading → SvNumbers

@@ -17,7 +17,9 @@ use monitor::parts::WORDS;
 use monitor::totals::SV_TOTAL_INSPECTED;
 use monitor::totals::count_frame_on;
 use records::error::VsError;
+use wire::element::Part;
 use wire::element::content;
+use wire::field::name_len;
 use wire::header::Apdu;
 use wire::header::ETHERTYPE_SV;
 use wire::header::ethernet_header;
@@ -25,7 +27,6 @@ use wire::places::SvPlaces;
 use wire::places::name_octets;
 use wire::places::sv_places;
 use wire::sv::Parsed;
-use wire::sv::name_len;
 use wire::sv::sv_asdu;
 
 // The verdict on a raw frame, with the error where it could not be read.
@@ -34,12 +35,12 @@ pub struct RawVerdict {
     pub verdict: [u8; 8],
 }
 
-// The verdict on an unreadable frame: not allowed, and no alert.
-fn refused_verdict() -> RawVerdict
-    ensures { λ r. ⌜ r ≡ refusedVerdict ⌝ }
+// The verdict on a frame that was not read: its error, not allowed, and no alert.
+fn refused_verdict(answer: Parsed) -> RawVerdict
+    ensures { λ r. ⌜ r ≡ refusedVerdict answer ⌝ }
 {
     RawVerdict {
-        answer: Parsed::Error(VsError::InvalidInput),
+        answer: answer,
         verdict: [0; 8],
     }
 }
@@ -73,11 +74,15 @@ fn apdu_verdict(m: &mut [u64; WORDS], apdu: &[u8], source: [u8; 6]) -> RawVerdic
     ensures { λ r. ⌜ ((time : ℕ) → record { monitor = monitorOf (now (m .exit)); answer = r }
         ≡ withRawVerdict (parsedInspected (monitorOf (now (m .entry))) (apduFrame (now (apdu .entry)) source time))) ⌝ }
 {
-    let asdu = sv_asdu(apdu);
+    let Part::At { start, len } = sv_asdu(apdu) else {
+        return refused_verdict(Parsed::Error(VsError::InvalidInput));
+    };
+    let asdu = content(apdu, start, len);
     let p = sv_places(asdu);
-    if !p.counted {
-        return refused_verdict();
-    }
+    let answer = p.answer;
+    let Parsed::Frame = answer else {
+        return refused_verdict(answer);
+    };
     let alerts = check_places(m, asdu, source, p);
     let verdict = verdict_on(m, alerts);
     RawVerdict {
@@ -95,7 +100,7 @@ pub fn raw_sv_verdict_lent(m: &mut [u64; WORDS], bytes: &[u8]) -> RawVerdict
     let found = ethernet_header(bytes, ETHERTYPE_SV);
     let apdu = found.apdu;
     let Apdu::At { start, end } = apdu else {
-        return refused_verdict();
+        return refused_verdict(Parsed::Error(VsError::InvalidInput));
     };
     let source = found.src_mac;
     apdu_verdict(m, content(bytes, start, end - start), source)

@@ -1,6 +1,6 @@
 -- Laws of elements: what a readable one tells of its octets, and the elements of a part one by one.
 use mathlib.Core.Path.{_≡_, refl, sym, _∙_, ap}
-use mathlib.Core.Bool.{Bool, true, false, _&&_, _||_, cond}
+use mathlib.Core.Bool.{Bool, true, false, _&&_, cond}
 use mathlib.Core.List.{List, [], _∷_}
 use Prim.Native.Nat.{ℕ, zero, suc, _+_, _-_, _%_, _≤_, _<_}
 use native.Mathlib.Nat.{not-suc-le-zero}
@@ -8,18 +8,23 @@ use native.Mathlib.Omega.{arith}
 use borrow.Author.Tests.{leb-true, lt-ltb, le-ltb, le-leb, lt-leb, eq-eqb, ne-eqb}
 use lib.Dec.{eqb, ltb, leb}
 use lib.ListN.{length, take, drop, length-take, length-drop}
-use lib.Seq.{take-all}
+use lib.Seq.{take-all, drop-drop}
 use Rattle.records.proofs.Booleans.{cond-holds}
-use Rattle.records.proofs.OctetLaws.{octets-none, octets-drop}
-use Rattle.records.specs.Legal.{Octets}
 use Rattle.records.specs.Octets.{octetAt}
 use Rattle.wire.specs.declared.element.Length.{Length}
 use Rattle.wire.specs.declared.element.Length.the-variants.{Definite, Refused}
+use Rattle.wire.specs.declared.element.Head.{Head}
+use Rattle.wire.specs.declared.element.Head.the-variants as head
 use Rattle.wire.specs.declared.element.Element.{Element}
 use Rattle.wire.specs.declared.element.Element.the-variants.{Read, Unreadable}
 use Rattle.wire.specs.Number.{bigEndian}
-use Rattle.wire.proofs.PartLaws.{rest-is, part-octets}
-use Rattle.wire.specs.Element.{limited, longForm, lengthOf, within, withLength, element, Elements, ended, unreadable, next, elementThen, afterElement, elementsOf, elements, firstContent, opened, contentOf}
+use Rattle.wire.proofs.PartLaws.{rest-is}
+use Rattle.records.specs.declared.error.VsError.{VsError}
+use Rattle.records.specs.declared.error.VsError.the-variants.{InvalidInput}
+use Rattle.wire.specs.Element.{limited, longForm, lengthOf, headWith, headOf, within, headed, element}
+use Rattle.wire.specs.Element.{Elements, ended, failed, next, elementThen, elementsOf, elements}
+use Rattle.wire.specs.Element.{Sought, found, missing, unread, firstContent, contentOf, opened}
+use Rattle.wire.specs.Reader.{afterElement}
 
 module _ (tag start len total : ℕ) where
   pub within-is : start + len ≤ total → within tag start len total ≡ Read tag start len (start + len)
@@ -77,30 +82,31 @@ unfolding lengthOf
 length-long [] h l = absurd (not-suc-le-zero h)
 length-long (o ∷ more) h l = rw (le-ltb o 0x80 l)
 
--- the element, by its first two octets
+-- the head, by the first two octets
 module _ (octets : List ℕ) where
-  pub element-short : length octets < 2 → element octets ≡ Unreadable
+  pub head-short : length octets < 2 → headOf octets ≡ head.Unreadable
+  unfolding headOf
+  head-short h = rw (lt-ltb (length octets) 2 h)
+
+  pub head-high : 2 ≤ length octets → octetAt octets 0 % 32 ≡ 31 → headOf octets ≡ head.Unreadable
+  unfolding headOf
+  head-high h e = rw (le-ltb (length octets) 2 h, eq-eqb (octetAt octets 0 % 32) 31 e)
+
+  -- by the length octets, which are read from the second octet on
+  module _
+      (h : 2 ≤ length octets) (n : octetAt octets 0 % 32 ≡ 31 → ⊥) {r : Length}
+      (e : r ≡ lengthOf (take (length octets - 1) (drop 1 octets))) where
+    pub head-by : {l : Length} → r ≡ l → headOf octets ≡ headWith (octetAt octets 0) l
+    unfolding headOf
+    head-by q =
+        rw (le-ltb (length octets) 2 h, ne-eqb (octetAt octets 0 % 32) 31 n)
+        (ap (headWith (octetAt octets 0)) (sym (ap lengthOf (rest-is octets 1)) ∙ sym e ∙ q))
+
+-- the element, by its head
+module _ (octets : List ℕ) {h : Head} (e : h ≡ headOf octets) where
+  pub element-by : {g : Head} → h ≡ g → element octets ≡ headed (length octets) g
   unfolding element
-  element-short h = rw (lt-ltb (length octets) 2 h)
-
-  pub element-high : 2 ≤ length octets → octetAt octets 0 % 32 ≡ 31 → element octets ≡ Unreadable
-  unfolding element
-  element-high h e = rw (le-ltb (length octets) 2 h, eq-eqb (octetAt octets 0 % 32) 31 e)
-
-  pub element-low : 2 ≤ length octets → (octetAt octets 0 % 32 ≡ 31 → ⊥) → element octets ≡ withLength (octetAt octets 0) (length octets) (lengthOf (drop 1 octets))
-  unfolding element
-  element-low h n = rw (le-ltb (length octets) 2 h, ne-eqb (octetAt octets 0 % 32) 31 n)
-
-  -- by its length octets, which are read from the second octet on
-  module _ (h : 2 ≤ length octets) (n : octetAt octets 0 % 32 ≡ 31 → ⊥) {r : Length} (e : r ≡ lengthOf (take (length octets - 1) (drop 1 octets))) where
-    element-by : element octets ≡ withLength (octetAt octets 0) (length octets) r
-    element-by = element-low h n ∙ ap (withLength (octetAt octets 0) (length octets)) (sym (e ∙ ap lengthOf (rest-is octets 1)))
-
-    pub element-refused : r ≡ Refused → element octets ≡ Unreadable
-    element-refused q = element-by ∙ ap (withLength (octetAt octets 0) (length octets)) q
-
-    pub element-definite : {used value : ℕ} → r ≡ Definite used value → element octets ≡ within (octetAt octets 0) (used + 1) value (length octets)
-    element-definite q = element-by ∙ ap (withLength (octetAt octets 0) (length octets)) q
+  element-by q = ap (headed (length octets)) (sym e ∙ q)
 
 -- length octets that are read are one to five
 pub definite : (octets : List ℕ) {used value : ℕ} → lengthOf octets ≡ Definite used value → (1 ≤ used) × (used ≤ 5)
@@ -127,24 +133,42 @@ definite (first ∷ further) {used} {value} e =
     short true f q = let u : 1 ≡ used = cc in (omega arith, omega arith)
     short false f q = f q
 
+-- a head that is read takes two octets or more
+pub head-size : (octets : List ℕ) {tag start len : ℕ} → headOf octets ≡ head.Read tag start len → (2 ≤ start) × (start ≤ 6)
+unfolding headOf
+head-size octets {tag} {start} {len} e =
+    go (ltb (length octets) 2) (eqb (octetAt octets 0 % 32) 31) (lengthOf (drop 1 octets)) refl e
+  where
+    go : (a b : Bool) (l : Length) → lengthOf (drop 1 octets) ≡ l
+        → cond a head.Unreadable (cond b head.Unreadable (headWith (octetAt octets 0) l)) ≡ head.Read tag start len → (2 ≤ start) × (start ≤ 6)
+    go true b l q p = let z : _≡_ {A = ℕ} 0 1 = cc in absurd (omega arith)
+    go false true l q p = let z : _≡_ {A = ℕ} 0 1 = cc in absurd (omega arith)
+    go false false (Definite used value) q p =
+        let d = definite (drop 1 octets) q in
+        let u : used + 1 ≡ start = cc in
+        (omega arith, omega arith)
+    go false false Refused q p = let z : _≡_ {A = ℕ} 0 1 = cc in absurd (omega arith)
+
 module _ (octets : List ℕ) {tag start len end : ℕ} where
-  -- a readable element takes two octets or more, and no more than there are; its content starts within it
-  pub element-end : element octets ≡ Read tag start len end → (2 ≤ end) × (end ≤ length octets) × (start ≤ end)
+  -- a readable element takes two octets or more, and no more than there are; its content is within it
+  pub element-end : element octets ≡ Read tag start len end → (2 ≤ end) × (end ≤ length octets) × (start + len ≡ end)
   unfolding element within
-  element-end e = go (ltb (length octets) 2 || eqb (octetAt octets 0 % 32) 31) (lengthOf (drop 1 octets)) refl e
+  element-end e = go (headOf octets) refl e
     where
       ends : (b : Bool) (t s k : ℕ) → 2 ≤ s → leb (s + k) (length octets) ≡ b → cond b (Read t s k (s + k)) Unreadable ≡ Read tag start len end
-          → (2 ≤ end) × (end ≤ length octets) × (start ≤ end)
-      ends true t s k h q p = let u : s + k ≡ end = cc in let v : s ≡ start = cc in let l = leb-true (s + k) (length octets) q in (omega arith, omega arith, omega arith)
+          → (2 ≤ end) × (end ≤ length octets) × (start + len ≡ end)
+      ends true t s k h q p =
+          let u : s + k ≡ end = cc in
+          let v : s ≡ start = cc in
+          let w : k ≡ len = cc in
+          let l = leb-true (s + k) (length octets) q in
+          (omega arith, omega arith, omega arith)
       ends false t s k h q p = let z : _≡_ {A = ℕ} 0 1 = cc in absurd (omega arith)
 
-      go : (b : Bool) (l : Length) → lengthOf (drop 1 octets) ≡ l → cond b Unreadable (withLength (octetAt octets 0) (length octets) l) ≡ Read tag start len end
-          → (2 ≤ end) × (end ≤ length octets) × (start ≤ end)
-      go true l q p = let z : _≡_ {A = ℕ} 0 1 = cc in absurd (omega arith)
-      go false (Definite used value) q p =
-          let d = definite (drop 1 octets) q in
-          ends (leb (used + 1 + value) (length octets)) (octetAt octets 0) (used + 1) value (omega arith) refl p
-      go false Refused q p = let z : _≡_ {A = ℕ} 0 1 = cc in absurd (omega arith)
+      go : (h : Head) → headOf octets ≡ h → headed (length octets) h ≡ Read tag start len end
+          → (2 ≤ end) × (end ≤ length octets) × (start + len ≡ end)
+      go (head.Read t s k) q p = ends (leb (s + k) (length octets)) t s k (head-size octets q .0) refl p
+      go head.Unreadable q p = let z : _≡_ {A = ℕ} 0 1 = cc in absurd (omega arith)
 
 -- no more turns than octets are needed
 pub elements-enough : (n m : ℕ) (octets : List ℕ) → length octets ≤ n → length octets ≤ m → elementsOf n octets ≡ elementsOf m octets
@@ -168,11 +192,11 @@ module _ (octets : List ℕ) where
   unfolding elementsOf
   elements-none e = rw e
 
-  pub elements-unreadable : 0 < length octets → element octets ≡ Unreadable → elements octets ≡ unreadable
+  pub elements-unreadable : 0 < length octets → element octets ≡ Unreadable → elements octets ≡ failed InvalidInput
   unfolding elementsOf
   elements-unreadable h e = go octets h e
     where
-      go : (l : List ℕ) → 0 < length l → element l ≡ Unreadable → elementsOf (length l) l ≡ unreadable
+      go : (l : List ℕ) → 0 < length l → element l ≡ Unreadable → elementsOf (length l) l ≡ failed InvalidInput
       go [] h e = absurd (not-suc-le-zero h)
       go (o ∷ more) h e = rw e
 
@@ -194,89 +218,115 @@ module _ (octets : List ℕ) where
   reader-yields h Unreadable q m = elements-unreadable h (sym q)
   reader-yields h (Read tag start len end) q m = elements-read (sym q) ∙ rw m
 
+-- an element that is read from a place on
+module _ (octets : List ℕ) (at : ℕ) {e : Element} (q : e ≡ element (take (length octets - at) (drop at octets))) where
+  there : {r : Element} → e ≡ r → element (drop at octets) ≡ r
+  there k = ap element (sym (rest-is octets at)) ∙ sym q ∙ k
+
+  pub unreadable-at : at < length octets → e ≡ Unreadable → elements (drop at octets) ≡ failed InvalidInput
+  unreadable-at h k = elements-unreadable (drop at octets) (simp length-drop (omega arith)) (there k)
+
+  module _ {tag start len end : ℕ} (k : e ≡ Read tag start len end) where
+    -- it ends within the octets, and its content is within it
+    pub ends-at : at ≤ length octets → (2 ≤ end) × (at + end ≤ length octets) × (start + len ≡ end)
+    ends-at h = let b = element-end (drop at octets) (there k) in let n = length-drop at octets in (b .0, omega (arith, b .1, n), b .2)
+
+    pub read-at : elements (drop at octets) ≡ next tag (take len (drop (at + start) octets)) (elements (drop (at + end) octets))
+    read-at = elements-read (drop at octets) (there k) ∙ λ i. next tag (take len (drop-drop start at octets i)) (elements (drop-drop end at octets i))
+
 -- the first element with a tag, one element at a time
-module _ (tag : ℕ) (octets : List ℕ) where
-  pub first-none : length octets ≡ 0 → firstContent tag (elements octets) ≡ octets
+module _ (tag : ℕ) {es : Elements} where
+  pub first-none : es ≡ ended → firstContent tag es ≡ missing
   unfolding firstContent
-  first-none e = rw (elements-none octets e) (empty octets e)
-    where
-      empty : (l : List ℕ) → length l ≡ 0 → [] ≡ l
-      empty [] e = refl
-      empty (o ∷ more) e = absurd (omega arith)
+  first-none e = rw e
 
-  pub first-unreadable : 0 < length octets → element octets ≡ Unreadable → firstContent tag (elements octets) ≡ []
+  pub first-failed : {x : VsError} → es ≡ failed x → firstContent tag es ≡ unread x
   unfolding firstContent
-  first-unreadable h e = rw (elements-unreadable octets h e)
+  first-failed e = rw e
 
-  module _ {found start len end : ℕ} (e : element octets ≡ Read found start len end) where
-    pub first-same : found ≡ tag → firstContent tag (elements octets) ≡ take len (drop start octets)
+  module _ {other : ℕ} {content : List ℕ} {rest : Elements} (e : es ≡ next other content rest) where
+    pub first-same : other ≡ tag → firstContent tag es ≡ found content
     unfolding firstContent
-    first-same q = rw (elements-read octets e, eq-eqb found tag q)
+    first-same q = rw (e, eq-eqb other tag q)
 
-    pub first-other : (found ≡ tag → ⊥) → firstContent tag (elements octets) ≡ firstContent tag (elements (drop end octets))
+    pub first-other : (other ≡ tag → ⊥) → firstContent tag es ≡ firstContent tag rest
     unfolding firstContent
-    first-other n = rw (elements-read octets e, ne-eqb found tag n)
+    first-other n = rw (e, ne-eqb other tag n)
 
 -- what is opened: a part with another tag in front is left as it is
-module _ (tag : ℕ) (octets : List ℕ) where
-  pub opened-none : length octets ≡ 0 → opened tag octets ≡ octets
+module _ (tag : ℕ) where
+  pub opened-none : (octets : List ℕ) → length octets ≡ 0 → opened tag octets ≡ missing
   unfolding opened
-  opened-none e = go octets e
-    where
-      go : (l : List ℕ) → length l ≡ 0 → opened tag l ≡ l
-      go [] e = refl
-      go (o ∷ more) e = let z : _≡_ {A = ℕ} 0 1 = omega arith in absurd (omega arith)
+  opened-none [] e = refl
+  opened-none (o ∷ more) e = absurd (omega arith)
 
-  pub opened-other : 0 < length octets → (octetAt octets 0 ≡ tag → ⊥) → opened tag octets ≡ octets
+  pub opened-other : (octets : List ℕ) → 0 < length octets → (octetAt octets 0 ≡ tag → ⊥) → opened tag octets ≡ found octets
   unfolding opened
-  opened-other h n = go octets h n
-    where
-      go : (l : List ℕ) → 0 < length l → (octetAt l 0 ≡ tag → ⊥) → opened tag l ≡ l
-      go [] h n = absurd (not-suc-le-zero h)
-      go (o ∷ more) h n = rw (ne-eqb o tag n)
+  opened-other [] h n = absurd (not-suc-le-zero h)
+  opened-other (o ∷ more) h n = rw (ne-eqb o tag n)
 
-  opened-same : 0 < length octets → octetAt octets 0 ≡ tag → opened tag octets ≡ contentOf octets (element octets)
+  pub opened-same :
+      (octets : List ℕ) → 0 < length octets → octetAt octets 0 ≡ tag → {e : Element} → element octets ≡ e → opened tag octets ≡ contentOf octets e
   unfolding opened
-  opened-same h e = go octets h e
+  opened-same [] h e q = absurd (not-suc-le-zero h)
+  opened-same (o ∷ more) h e q = rw (eq-eqb o tag e) (ap (contentOf (o ∷ more)) q)
+
+-- the contents of elements have a property, and the only error is InvalidInput; likewise of what is sought
+abbrev pub Contents : (List ℕ → Type 0) → Elements → Type 0
+Contents P ended = Unit
+Contents P (failed e) = e ≡ InvalidInput
+Contents P (next tag content rest) = P content × Contents P rest
+
+abbrev pub FoundOr : (List ℕ → Type 0) → Sought → Type 0
+FoundOr P (found octets) = P octets
+FoundOr P missing = Unit
+FoundOr P (unread e) = e ≡ InvalidInput
+
+-- of any octets
+abbrev pub Any : List ℕ → Type 0
+Any octets = Unit
+
+-- a property that a part has of the whole
+module _
+    (P : List ℕ → Type 0) (of-part : (l : List ℕ) → P l → (start len : ℕ) → P (take len (drop start l)))
+    (of-rest : (l : List ℕ) → P l → (n : ℕ) → P (drop n l)) where
+  elements-have : (n : ℕ) (octets : List ℕ) → P octets → Contents P (elementsOf n octets)
+  unfolding elementsOf
+  elements-have zero octets o = tt
+  elements-have (suc n) [] o = tt
+  elements-have (suc n) (first ∷ more) o = go (element (first ∷ more)) (elements-have n)
     where
-      go : (l : List ℕ) → 0 < length l → octetAt l 0 ≡ tag → opened tag l ≡ contentOf l (element l)
-      go [] h e = absurd (not-suc-le-zero h)
-      go (o ∷ more) h e = rw (eq-eqb o tag e)
+      go : (e : Element) → ((l : List ℕ) → P l → Contents P (elementsOf n l)) → Contents P (elementThen (elementsOf n) (first ∷ more) e)
+      go Unreadable f = refl
+      go (Read tag start len end) f = (of-part (first ∷ more) o start len, f (drop end (first ∷ more)) (of-rest (first ∷ more) o end))
 
-  pub opened-refused : 0 < length octets → octetAt octets 0 ≡ tag → element octets ≡ Unreadable → opened tag octets ≡ []
-  opened-refused h e q = opened-same h e ∙ ap (contentOf octets) q
+  pub all-elements : (octets : List ℕ) → P octets → Contents P (elements octets)
+  all-elements octets o = elements-have (length octets) octets o
 
-  pub opened-read : 0 < length octets → octetAt octets 0 ≡ tag → {found start len end : ℕ} → element octets ≡ Read found start len end → opened tag octets ≡ take len (drop start octets)
-  opened-read h e q = opened-same h e ∙ ap (contentOf octets) q
+  pub opened-has : (tag : ℕ) (octets : List ℕ) → P octets → FoundOr P (opened tag octets)
+  unfolding opened
+  opened-has tag [] o = tt
+  opened-has tag (first ∷ more) o = cond-holds (FoundOr P) (eqb first tag) (go (element (first ∷ more))) o
+    where
+      go : (e : Element) → FoundOr P (contentOf (first ∷ more) e)
+      go Unreadable = refl
+      go (Read tag start len end) = of-part (first ∷ more) o start len
 
--- the contents of elements are octets
-abbrev pub Contents : Elements → Type 0
-Contents ended = Unit
-Contents unreadable = Unit
-Contents (next tag content rest) = Octets content × Contents rest
+  first-of : (tag : ℕ) (e : Elements) → Contents P e → FoundOr P (firstContent tag e)
+  unfolding firstContent
+  first-of tag ended c = tt
+  first-of tag (failed e) c = c
+  first-of tag (next other content rest) c = cond-holds (FoundOr P) (eqb other tag) (c .0) (first-of tag rest (c .1))
 
--- what is read from octets is octets
-pub elements-octets : (n : ℕ) (octets : List ℕ) → Octets octets → Contents (elementsOf n octets)
-unfolding elementsOf
-elements-octets zero octets o = tt
-elements-octets (suc n) [] o = tt
-elements-octets (suc n) (first ∷ more) o = go (element (first ∷ more)) (elements-octets n)
-  where
-    go : (e : Element) → ((l : List ℕ) → Octets l → Contents (elementsOf n l)) → Contents (elementThen (elementsOf n) (first ∷ more) e)
-    go Unreadable f = tt
-    go (Read tag start len end) f = (part-octets (first ∷ more) o start len, f (drop end (first ∷ more)) (octets-drop (first ∷ more) o end))
+  pub first-has : (tag : ℕ) (octets : List ℕ) → P octets → FoundOr P (firstContent tag (elements octets))
+  first-has tag octets o = first-of tag (elements octets) (all-elements octets o)
 
-pub first-octets : (tag : ℕ) (e : Elements) → Contents e → Octets (firstContent tag e)
-unfolding firstContent
-first-octets tag ended c = octets-none
-first-octets tag unreadable c = octets-none
-first-octets tag (next found content rest) c = cond-holds Octets (eqb found tag) (c .0) (first-octets tag rest (c .1))
+-- of whatever is sought, the only error is InvalidInput
+pub any-elements : (octets : List ℕ) → Contents Any (elements octets)
+any-elements octets = all-elements Any (λ l a start len. tt) (λ l a n. tt) octets tt
 
-pub opened-octets : (tag : ℕ) (octets : List ℕ) → Octets octets → Octets (opened tag octets)
-unfolding opened
-opened-octets tag [] o = octets-none
-opened-octets tag (first ∷ more) o = cond-holds Octets (eqb first tag) (go (element (first ∷ more))) o
-  where
-    go : (e : Element) → Octets (contentOf (first ∷ more) e)
-    go (Read found start len end) = part-octets (first ∷ more) o start len
-    go Unreadable = octets-none
+pub any-opened : (tag : ℕ) (octets : List ℕ) → FoundOr Any (opened tag octets)
+any-opened tag octets = opened-has Any (λ l a start len. tt) (λ l a n. tt) tag octets tt
+
+pub any-first : (tag : ℕ) (octets : List ℕ) → FoundOr Any (firstContent tag (elements octets))
+any-first tag octets = first-has Any (λ l a start len. tt) (λ l a n. tt) tag octets tt

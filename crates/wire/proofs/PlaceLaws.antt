@@ -7,7 +7,7 @@ use native.Mathlib.Nat.{zero-add}
 use native.Mathlib.Omega.{arith}
 use lib.Dec.{eqb}
 use lib.ListN.{length, take, drop, length-take, length-drop, length-replicate}
-use lib.Seq.{length-take-le, getD-take, ext-getD, drop-drop}
+use lib.Seq.{length-take-le, getD-take, ext-getD}
 use Rattle.records.proofs.Booleans.{cond-holds, cond-yes, cond-no}
 use Rattle.records.proofs.NameLaws.{length-overwritten, overwritten-in}
 use Rattle.records.specs.declared.error.VsError.{VsError}
@@ -21,12 +21,11 @@ use Rattle.wire.specs.declared.sv.Parsed.{Parsed}
 use Rattle.wire.specs.declared.sv.Parsed.the-variants.{Frame, Error}
 use Rattle.wire.specs.declared.sv.ParsedSv.{ParsedSv}
 use Rattle.wire.specs.declared.places.SvPlaces.{SvPlaces}
-use Rattle.wire.specs.Element.{Elements, ended, unreadable, next, element, elements}
-use Rattle.wire.specs.Places.{SvReading, readingOf, readingAt, noPlaces, withRead, ReadSv, read, refused, ifCounted, placedReading}
-use Rattle.wire.specs.Places.{answeredReading, parsedReading}
-use Rattle.wire.specs.Sv.{refusedSv, fieldFits, overlaid, withField, fieldsFrom, emptyFrame}
-use Rattle.wire.proofs.ElementLaws.{element-end, elements-none, elements-unreadable, elements-read}
-use Rattle.wire.proofs.PartLaws.{rest-is}
+use Rattle.wire.specs.Element.{Elements, ended, failed, next, element, elements}
+use Rattle.wire.specs.Field.{svidTag, datSetTag, smpCntTag, fieldFits, overlaid, withField}
+use Rattle.wire.specs.Places.{SvReading, readingOf, readingAt, noPlaces, withRead, ReadSv, read, refused, answered, placedReading, parsedReading}
+use Rattle.wire.specs.Sv.{refusedSv, fieldsFrom, emptyFrame}
+use Rattle.wire.proofs.ElementLaws.{elements-none, unreadable-at, ends-at, read-at}
 
 -- ---- names
 
@@ -59,27 +58,31 @@ length-overlaid : (old content : List ℕ) → length old ≡ 64 → length (ove
 unfolding overlaid
 length-overlaid old content h = length-overwritten old (octetAt content) 0 (validLen (length content)) ∙ h
 
+-- the answer with a count, or without
+abbrev answerOf : Bool → Parsed
+answerOf counted = cond counted Frame (Error InvalidInput)
+
 module _ (f : SvFrame) (s : Sized f) (tag : ℕ) (content : List ℕ) where
   field-sized : Sized (withField f tag content)
   unfolding withField
   field-sized =
       record {
-        svid = cond-holds (λ (l : List ℕ). length l ≡ 64) (eqb tag 0x80) (length-overlaid (f .svid) content (s .svid)) (s .svid);
-        dataset = cond-holds (λ (l : List ℕ). length l ≡ 64) (eqb tag 0x81) (length-overlaid (f .«dataset_ref») content (s .dataset)) (s .dataset);
+        svid = cond-holds (λ (l : List ℕ). length l ≡ 64) (eqb tag svidTag) (length-overlaid (f .svid) content (s .svid)) (s .svid);
+        dataset = cond-holds (λ (l : List ℕ). length l ≡ 64) (eqb tag datSetTag) (length-overlaid (f .«dataset_ref») content (s .dataset)) (s .dataset);
       }
 
-  counts : (c b : Bool) → (c || b) ≡ cond b true c
+  counts : (c b : Bool) → answerOf (c || b) ≡ cond b Frame (answerOf c)
   counts true true = refl
   counts true false = refl
   counts false true = refl
   counts false false = refl
 
-  field-read : (counted : Bool) → readingOf (counted || eqb tag 0x82) (withField f tag content) ≡ withRead (readingOf counted f) tag content
+  field-read : (counted : Bool) → readingOf (answerOf (counted || eqb tag smpCntTag)) (withField f tag content) ≡ withRead (readingOf (answerOf counted) f) tag content
   unfolding withField withRead
   field-read counted =
-      let a = named (eqb tag 0x80) (f .svid) content (f .«svid_len») (s .svid) in
-      let b = named (eqb tag 0x81) (f .«dataset_ref») content (f .«dataset_ref_len») (s .dataset) in
-      let c = counts counted (eqb tag 0x82) in
+      let a = named (eqb tag svidTag) (f .svid) content (f .«svid_len») (s .svid) in
+      let b = named (eqb tag datSetTag) (f .«dataset_ref») content (f .«dataset_ref_len») (s .dataset) in
+      let c = counts counted (eqb tag smpCntTag) in
       let g = withField f tag content in
       λ i. record {
         source = f .«src_mac»;
@@ -89,32 +92,34 @@ module _ (f : SvFrame) (s : Sized f) (tag : ℕ) (content : List ℕ) where
         «smp_rate» = g .«smp_rate»;
         seconds = g .«t_seconds_since_epoch»;
         fraction = g .«t_fraction_of_second»;
-        counted = c i;
+        answer = c i;
       }
 
 -- the fields of an ASDU in their order, as they are read
 unfoldable pub readFrom : SvReading → Elements → ReadSv
-readFrom q ended = ifCounted q
-readFrom q unreadable = refused InvalidInput
+readFrom q ended = answered q (q .answer)
+readFrom q (failed e) = refused e
 readFrom q (next tag content rest) = cond (fieldFits tag content) (readFrom (withRead q tag content) rest) (refused InvalidInput)
 
-refused-read : parsedReading refusedSv ≡ refused InvalidInput
+refused-read : (e : VsError) → parsedReading (refusedSv e) ≡ refused e
 unfolding refusedSv
-refused-read = refl
+refused-read e = refl
 
-pub fields-read : (f : SvFrame) (counted : Bool) (e : Elements) → Sized f → readFrom (readingOf counted f) e ≡ parsedReading (fieldsFrom f counted e)
+pub fields-read :
+    (f : SvFrame) (counted : Bool) (e : Elements) → Sized f → readFrom (readingOf (answerOf counted) f) e ≡ parsedReading (fieldsFrom f counted e)
 unfolding readFrom fieldsFrom
 fields-read f true ended s = refl
-fields-read f false ended s = sym refused-read
-fields-read f counted unreadable s = sym refused-read
+fields-read f false ended s = sym (refused-read InvalidInput)
+fields-read f counted (failed e) s = sym (refused-read e)
 fields-read f counted (next tag content rest) s =
     go (fieldFits tag content) _
     (ap (λ (q : SvReading). readFrom q rest) (sym (field-read f s tag content counted))
-    ∙ fields-read (withField f tag content) (counted || eqb tag 0x82) rest (field-sized f s tag content))
+    ∙ fields-read (withField f tag content) (counted || eqb tag smpCntTag) rest (field-sized f s tag content))
   where
-    go : (b : Bool) {q : ReadSv} (p : ParsedSv) → q ≡ parsedReading p → cond b q (refused InvalidInput) ≡ parsedReading (cond b p refusedSv)
+    go : (b : Bool) {q : ReadSv} (p : ParsedSv) → q ≡ parsedReading p
+        → cond b q (refused InvalidInput) ≡ parsedReading (cond b p (refusedSv InvalidInput))
     go true p e = e
-    go false p e = sym refused-read
+    go false p e = sym (refused-read InvalidInput)
 
 -- ---- the walk
 
@@ -151,30 +156,13 @@ module _ (asdu : List ℕ) {p : SvPlaces} where
         ap (readFrom (readingAt source asdu p)) (sym (elements-none (drop at asdu) (simp length-drop (omega arith)))) ∙ w .whole source time
 
     module _ {e : Element} (q : e ≡ element (take (length asdu - at) (drop at asdu))) where
-      there : element (drop at asdu) ≡ e
-      there = ap element (sym (rest-is asdu at)) ∙ sym q
-
       pub walked-unreadable :
           at < length asdu → e ≡ Unreadable → (source : List ℕ) (time : ℕ)
           → refused InvalidInput ≡ parsedReading (fieldsFrom (emptyFrame source time) false (elements asdu))
       unfolding readFrom
-      walked-unreadable h u source time =
-          ap (readFrom (readingAt source asdu p)) (sym (elements-unreadable (drop at asdu) (simp length-drop (omega arith)) (there ∙ u)))
-          ∙ w .whole source time
+      walked-unreadable h u source time = ap (readFrom (readingAt source asdu p)) (sym (unreadable-at asdu at q h u)) ∙ w .whole source time
 
       module _ {tag start len end : ℕ} (k : e ≡ Read tag start len end) where
-        -- the element ends within the ASDU, and its content starts there
-        pub walked-within : at < length asdu → (2 ≤ end) × (at + end ≤ length asdu) × (start ≤ end)
-        walked-within h =
-            let b = element-end (drop at asdu) (there ∙ k) in
-            let n = length-drop at asdu in
-            (b .0, omega (arith, b .1, n), b .2)
-
-        read-next : elements (drop at asdu) ≡ next tag (take len (drop (at + start) asdu)) (elements (drop (at + end) asdu))
-        read-next =
-            elements-read (drop at asdu) (there ∙ k)
-            ∙ λ i. next tag (take len (drop-drop start at asdu i)) (elements (drop-drop end at asdu i))
-
         module _ {content : List ℕ} (c : content ≡ take len (drop (at + start) asdu)) {fits : Bool} (f : fits ≡ fieldFits tag content) where
           fit : {b : Bool} → fits ≡ b → fieldFits tag (take len (drop (at + start) asdu)) ≡ b
           fit b = ap (fieldFits tag) (sym c) ∙ sym f ∙ b
@@ -184,36 +172,36 @@ module _ (asdu : List ℕ) {p : SvPlaces} where
               → refused InvalidInput ≡ parsedReading (fieldsFrom (emptyFrame source time) false (elements asdu))
           unfolding readFrom
           walked-unfit n source time =
-              sym (cond-no _ _ (fit n)) ∙ ap (readFrom (readingAt source asdu p)) (sym read-next) ∙ w .whole source time
+              sym (cond-no _ _ (fit n)) ∙ ap (readFrom (readingAt source asdu p)) (sym (read-at asdu at q k)) ∙ w .whole source time
 
           pub walked-more :
-              fits ≡ true → at < length asdu → {r : SvPlaces}
+              fits ≡ true → {r : SvPlaces}
               → ((source : List ℕ) → readingAt source asdu r ≡ withRead (readingAt source asdu p) tag (take len (drop (at + start) asdu)))
               → Walked asdu r (at + end)
           unfolding readFrom
-          walked-more y h r =
+          walked-more y r =
               record {
-                bound = walked-within h .1;
+                bound = ends-at asdu at q k (w .bound) .1;
                 whole = λ source time.
                     ap (λ (x : SvReading). readFrom x (elements (drop (at + end) asdu))) (r source)
                     ∙ sym (cond-yes _ _ (fit y))
-                    ∙ ap (readFrom (readingAt source asdu p)) (sym read-next)
+                    ∙ ap (readFrom (readingAt source asdu p)) (sym (read-at asdu at q k))
                     ∙ w .whole source time;
               }
 
 -- ---- a frame, by what is read of it
 
 module _ (p : ParsedSv) where
-  pub read-frame : {q : SvReading} → read q ≡ parsedReading p → (p .answer ≡ Frame) × (q ≡ readingOf true (p .frame))
+  pub read-frame : {q : SvReading} → read q ≡ parsedReading p → (p .answer ≡ Frame) × (q ≡ readingOf Frame (p .frame))
   read-frame {q} e = go (p .frame) (p .answer) e
     where
-      go : (f : SvFrame) (a : Parsed) → read q ≡ answeredReading f a → (a ≡ Frame) × (q ≡ readingOf true f)
+      go : (f : SvFrame) (a : Parsed) → read q ≡ answered (readingOf Frame f) a → (a ≡ Frame) × (q ≡ readingOf Frame f)
       go f Frame e = (refl, cc)
       go f (Error x) e = let z : _≡_ {A = ℕ} 0 1 = cc in absurd (omega arith)
 
   pub read-error : {x : VsError} → refused x ≡ parsedReading p → p .answer ≡ Error x
   read-error {x} e = go (p .frame) (p .answer) e
     where
-      go : (f : SvFrame) (a : Parsed) → refused x ≡ answeredReading f a → a ≡ Error x
+      go : (f : SvFrame) (a : Parsed) → refused x ≡ answered (readingOf Frame f) a → a ≡ Error x
       go f Frame e = let z : _≡_ {A = ℕ} 0 1 = cc in absurd (omega arith)
       go f (Error y) e = cc

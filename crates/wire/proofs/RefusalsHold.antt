@@ -7,10 +7,14 @@ use mathlib.Core.Path.{_≡_, refl, ap}
 use lib.Dec.{eqb}
 use lib.ListN.{getD}
 use Rattle.records.proofs.Booleans.{cond-holds}
+use Rattle.records.specs.declared.error.VsError.{VsError}
+use Rattle.records.specs.declared.error.VsError.the-variants.{InvalidInput}
 use Rattle.records.specs.declared.frame.SvFrame.{SvFrame}
 use Rattle.records.specs.Row.{ValuesOr}
 use Rattle.wire.specs.declared.element.Element.{Element}
 use Rattle.wire.specs.declared.element.Element.the-variants.{Read, Unreadable}
+use Rattle.wire.specs.declared.element.Head.{Head}
+use Rattle.wire.specs.declared.element.Head.the-variants as head
 use Rattle.wire.specs.declared.element.Length.{Length}
 use Rattle.wire.specs.declared.element.Length.the-variants as length
 use Rattle.wire.specs.declared.header.Apdu.{Apdu}
@@ -18,17 +22,24 @@ use Rattle.wire.specs.declared.header.Apdu.the-variants as apdu
 use Rattle.wire.specs.declared.number.Unsigned.{Unsigned}
 use Rattle.wire.specs.declared.number.Unsigned.the-variants as unsigned
 use Rattle.wire.specs.declared.sv.ParsedSv.{ParsedSv}
-use Rattle.wire.specs.Element.{lengthRow, elementRow, lengthOf, element, Elements, ended, unreadable, next}
+use Rattle.wire.specs.Element.{lengthRow, headRow, elementRow, lengthOf, headOf, element}
+use Rattle.wire.specs.Element.{Elements, ended, failed, next, elements, Sought, found, missing, unread, firstContent, opened}
+use Rattle.wire.specs.Field.{savPduTag, seqAsduTag, asduTag, smpCntTag, fieldFits, withField}
 use Rattle.wire.specs.Header.{apduRow, header}
 use Rattle.wire.specs.Number.{unsignedRow, unsignedInt}
-use Rattle.wire.specs.Refusals.{LengthRefusals, ElementRefusals, UnsignedRefusals, ApduRefusals, FrameOr9, SvRefusals}
-use Rattle.wire.specs.Sv.{parsedRow, refusedSv, fieldFits, withField, fieldsFrom, apduFrame, headerFrame, svFrame}
+use Rattle.wire.specs.Refusals.{LengthRefusals, HeadRefusals, ElementRefusals, UnsignedRefusals, ApduRefusals, FrameOr9, SvRefusals}
+use Rattle.wire.specs.Sv.{parsedRow, refusedSv, fieldsFrom, asduFrame, seqAsduFrame, savPduFrame, apduFrame, apduAt, svFrame}
+use Rattle.wire.proofs.ElementLaws.{Contents, FoundOr, Any, any-elements, any-opened, any-first}
 
 -- ---- answers that carry no error
 
 length-row : (a : Length) → ValuesOr 9 (lengthRow a)
 length-row (length.Definite octets value) = inl refl
 length-row length.Refused = inr refl
+
+head-row : (a : Head) → ValuesOr 9 (headRow a)
+head-row (head.Read tag start len) = inl refl
+head-row head.Unreadable = inr refl
 
 element-row : (a : Element) → ValuesOr 9 (elementRow a)
 element-row (Read tag start len end) = inl refl
@@ -45,6 +56,9 @@ apdu-row apdu.Refused = inr refl
 pub length-refusals : LengthRefusals
 length-refusals octets = length-row (lengthOf octets)
 
+pub head-refusals : HeadRefusals
+head-refusals octets = head-row (headOf octets)
+
 pub element-refusals : ElementRefusals
 element-refusals octets = element-row (element octets)
 
@@ -56,29 +70,45 @@ apdu-refusals type octets = apdu-row (header type octets .apdu)
 
 -- ---- the frame
 
-refused : FrameOr9 refusedSv
+refused : {e : VsError} → e ≡ InvalidInput → FrameOr9 (refusedSv e)
 unfolding refusedSv
-refused = inr (refl, refl)
+refused q = rw q (inr (refl, refl))
 
-fields-read : (f : SvFrame) (counted : Bool) (e : Elements) → FrameOr9 (fieldsFrom f counted e)
+fields-read : (f : SvFrame) (counted : Bool) (e : Elements) → Contents Any e → FrameOr9 (fieldsFrom f counted e)
 unfolding fieldsFrom
-fields-read f true ended = inl refl
-fields-read f false ended = refused
-fields-read f counted unreadable = refused
-fields-read f counted (next tag content rest) =
-    cond-holds FrameOr9 (fieldFits tag content) (fields-read (withField f tag content) (counted || eqb tag 0x82) rest) refused
+fields-read f true ended c = inl refl
+fields-read f false ended c = refused refl
+fields-read f counted (failed e) c = refused c
+fields-read f counted (next tag content rest) c =
+    cond-holds FrameOr9 (fieldFits tag content) (fields-read (withField f tag content) (counted || eqb tag smpCntTag) rest (c .1)) (refused refl)
+
+module _ (f : SvFrame) where
+  asdu-read : (s : Sought) → FoundOr Any s → FrameOr9 (asduFrame f s)
+  asdu-read (found asdu) o = fields-read f false (elements asdu) (any-elements asdu)
+  asdu-read missing o = refused refl
+  asdu-read (unread e) o = refused o
+
+  seq-read : (s : Sought) → FoundOr Any s → FrameOr9 (seqAsduFrame f s)
+  seq-read (found asdus) o = asdu-read (opened asduTag asdus) (any-opened asduTag asdus)
+  seq-read missing o = refused refl
+  seq-read (unread e) o = refused o
+
+  pdu-read : (s : Sought) → FoundOr Any s → FrameOr9 (savPduFrame f s)
+  pdu-read (found pdu) o = seq-read (firstContent seqAsduTag (elements pdu)) (any-first seqAsduTag pdu)
+  pdu-read missing o = refused refl
+  pdu-read (unread e) o = refused o
 
 apdu-read : (octets source : List ℕ) (time : ℕ) → FrameOr9 (apduFrame octets source time)
 unfolding apduFrame
-apdu-read octets source time = fields-read _ false _
+apdu-read octets source time = pdu-read _ (opened savPduTag octets) (any-opened savPduTag octets)
 
 pub sv-refusals : SvRefusals
 unfolding svFrame
 sv-refusals octets time = go (header 0x88BA octets .apdu)
   where
-    go : (a : Apdu) → FrameOr9 (headerFrame octets time (header 0x88BA octets .«src_mac») a)
+    go : (a : Apdu) → FrameOr9 (apduAt octets time (header 0x88BA octets .«src_mac») a)
     go (apdu.At start end) = apdu-read _ _ time
-    go apdu.Refused = refused
+    go apdu.Refused = refused refl
 
 -- of what was read
 pub by-frame : (octets : List ℕ) (time : ℕ) {p : ParsedSv} → p ≡ svFrame octets time → (p ≡ svFrame octets time) × FrameOr9 p

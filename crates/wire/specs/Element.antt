@@ -1,16 +1,21 @@
 -- Elements (01, "Element"; X.690 8.1.2 and 8.1.3): tag, length, content, on a list of octets.
-use Prim.Native.Nat.{ℕ, zero, suc, _+_, _-_, _%_}
-use mathlib.Core.Bool.{_&&_, _||_, cond}
+use Prim.Native.Nat.{ℕ, zero, suc, _+_, _-_, _%_, _≤_}
+use mathlib.Core.Bool.{_&&_, cond}
 use mathlib.Core.List.{List, [], _∷_}
 use lib.Dec.{eqb, ltb, leb}
 use lib.ListN.{length, take, drop}
+use Rattle.records.specs.declared.error.VsError.{VsError}
 use Rattle.records.specs.declared.error.VsError.the-variants.{InvalidInput}
 use Rattle.records.specs.Octets.{octetAt}
 use Rattle.records.specs.Row.{errorRow}
 use Rattle.wire.specs.declared.element.Length.{Length}
 use Rattle.wire.specs.declared.element.Length.the-variants.{Definite, Refused}
+use Rattle.wire.specs.declared.element.Head.{Head}
+use Rattle.wire.specs.declared.element.Head.the-variants as head
 use Rattle.wire.specs.declared.element.Element.{Element}
 use Rattle.wire.specs.declared.element.Element.the-variants.{Read, Unreadable}
+use Rattle.wire.specs.declared.element.Part.{Part}
+use Rattle.wire.specs.declared.element.Part.the-variants.{At, Missing, Error}
 use Rattle.wire.specs.Number.{bigEndian}
 
 -- length octets as a row: 1, how many they are and the length that they state, or error 9
@@ -18,10 +23,21 @@ abbrev pub lengthRow : Length → List ℕ
 lengthRow (Definite octets value) = 1 ∷ octets ∷ value ∷ []
 lengthRow Refused = errorRow InvalidInput
 
+-- a head as a row: 1, the tag, where the content starts and its length, or error 9
+abbrev pub headRow : Head → List ℕ
+headRow (head.Read tag start len) = 1 ∷ tag ∷ start ∷ len ∷ []
+headRow head.Unreadable = errorRow InvalidInput
+
 -- an element as a row: 1, its tag, where its content starts, its length and where it ends, or error 9
 abbrev pub elementRow : Element → List ℕ
 elementRow (Read tag start len end) = 1 ∷ tag ∷ start ∷ len ∷ end ∷ []
 elementRow Unreadable = errorRow InvalidInput
+
+-- a part that was sought as a row: 1, where it starts and its length; 2 where it is missing; or 0 and the error
+abbrev pub partRow : Part → List ℕ
+partRow (At start len) = 1 ∷ start ∷ len ∷ []
+partRow Missing = 2 ∷ []
+partRow (Error e) = errorRow e
 
 -- a length above 65535 is refused
 abbrev pub limited : ℕ → ℕ → Length
@@ -37,36 +53,41 @@ unfoldable pub lengthOf : List ℕ → Length
 lengthOf [] = Refused
 lengthOf (first ∷ further) = cond (ltb first 0x80) (Definite 1 first) (longForm (first - 0x80) further)
 
+-- the head that a tag and length octets give
+abbrev pub headWith : ℕ → Length → Head
+headWith tag (Definite octets len) = head.Read tag (octets + 1) len
+headWith tag Refused = head.Unreadable
+
+-- the head at the front: fewer than 2 octets are refused, and a tag of which the five low bits are all ones (8.1.2.4)
+unfoldable pub headOf : List ℕ → Head
+headOf octets =
+    cond (ltb (length octets) 2) head.Unreadable
+    (cond (eqb (octetAt octets 0 % 32) 31) head.Unreadable
+    (headWith (octetAt octets 0) (lengthOf (drop 1 octets))))
+
 -- content past the end is refused
 unfoldable pub within : ℕ → ℕ → ℕ → ℕ → Element
 within tag start len total = cond (leb (start + len) total) (Read tag start len (start + len)) Unreadable
 
--- the element that a length gives, if one was read
-abbrev pub withLength : ℕ → ℕ → Length → Element
-withLength tag total (Definite octets len) = within tag (octets + 1) len total
-withLength tag total Refused = Unreadable
+-- the element of a head, in so many octets
+abbrev pub headed : ℕ → Head → Element
+headed total (head.Read tag start len) = within tag start len total
+headed total head.Unreadable = Unreadable
 
--- the element at the front: fewer than 2 octets and a tag of which the five low bits are all ones are refused (8.1.2.4)
+-- the element at the front
 unfoldable pub element : List ℕ → Element
-element octets =
-    cond (ltb (length octets) 2 || eqb (octetAt octets 0 % 32) 31) Unreadable
-    (withLength (octetAt octets 0) (length octets) (lengthOf (drop 1 octets)))
+element octets = headed (length octets) (headOf octets)
 
--- the elements of a part, each its tag and its content, up to the part's end or to an unreadable one
+-- the elements of a part, each its tag and its content, up to the part's end or to the error that ended the reading
 pub data Elements : Type 0 where
   ended : Elements
-  unreadable : Elements
+  failed : VsError → Elements
   next : ℕ → List ℕ → Elements → Elements
 
--- an element and what follows it
+-- an element and what follows it; an unreadable one is InvalidInput
 abbrev pub elementThen : (List ℕ → Elements) → List ℕ → Element → Elements
-elementThen follow octets Unreadable = unreadable
+elementThen follow octets Unreadable = failed InvalidInput
 elementThen follow octets (Read tag start len end) = next tag (take len (drop start octets)) (follow (drop end octets))
-
--- what follows an element; nothing where it is unreadable
-abbrev pub afterElement : List ℕ → Element → List ℕ
-afterElement octets (Read tag start len end) = drop end octets
-afterElement octets Unreadable = []
 
 -- nothing, or an element and what follows it
 abbrev pub elementsThen : (List ℕ → Elements) → List ℕ → Elements
@@ -82,18 +103,36 @@ elementsOf (suc n) octets = elementsThen (elementsOf n) octets
 abbrev pub elements : List ℕ → Elements
 elements octets = elementsOf (length octets) octets
 
--- the content of the first element with this tag, nothing after it being read; nothing where there is none
-unfoldable pub firstContent : ℕ → Elements → List ℕ
-firstContent tag ended = []
-firstContent tag unreadable = []
-firstContent tag (next found content rest) = cond (eqb found tag) content (firstContent tag rest)
+-- what is sought in octets: the octets of it, that it is missing, or the error that ended the reading
+pub data Sought : Type 0 where
+  found : List ℕ → Sought
+  missing : Sought
+  unread : VsError → Sought
 
--- the content of an element, none where it is unreadable
-abbrev pub contentOf : List ℕ → Element → List ℕ
-contentOf octets (Read tag start len end) = take len (drop start octets)
-contentOf octets Unreadable = []
+-- the content of the first element with this tag, nothing after it being read
+unfoldable pub firstContent : ℕ → Elements → Sought
+firstContent tag ended = missing
+firstContent tag (failed e) = unread e
+firstContent tag (next other content rest) = cond (eqb other tag) (found content) (firstContent tag rest)
 
--- an element with this tag at the front is opened: its content is left; other octets are left as they are
-unfoldable pub opened : ℕ → List ℕ → List ℕ
-opened tag [] = []
-opened tag (first ∷ more) = cond (eqb first tag) (contentOf (first ∷ more) (element (first ∷ more))) (first ∷ more)
+-- the content of an element; of an unreadable one, the error
+abbrev pub contentOf : List ℕ → Element → Sought
+contentOf octets (Read tag start len end) = found (take len (drop start octets))
+contentOf octets Unreadable = unread InvalidInput
+
+-- an element with this tag at the front is opened: its content; other octets are left as they are, and where there are none, nothing is there
+unfoldable pub opened : ℕ → List ℕ → Sought
+opened tag [] = missing
+opened tag (first ∷ more) = cond (eqb first tag) (contentOf (first ∷ more) (element (first ∷ more))) (found (first ∷ more))
+
+-- what stands in octets where an answer says
+abbrev pub partOf : List ℕ → Part → Sought
+partOf octets (At start len) = found (take len (drop start octets))
+partOf octets Missing = missing
+partOf octets (Error e) = unread e
+
+-- an answer's part is within so many octets
+abbrev pub Within : ℕ → Part → Type 0
+Within total (At start len) = start + len ≤ total
+Within total Missing = Unit
+Within total (Error e) = Unit

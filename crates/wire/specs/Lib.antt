@@ -1,6 +1,8 @@
 pub mod Number
 pub mod Element
+pub mod Reader
 pub mod Header
+pub mod Field
 pub mod Sv
 pub mod Places
 pub mod Refusals

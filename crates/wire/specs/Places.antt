@@ -1,6 +1,6 @@
 -- A sampled-values frame read by positions. For the code: what the checks read of a frame, and of an ASDU where it stands.
 use Prim.Native.Nat.{ℕ}
-use mathlib.Core.Bool.{Bool, true, false, cond}
+use mathlib.Core.Bool.{cond}
 use mathlib.Core.List.{List}
 use lib.Dec.{eqb}
 use lib.ListN.{take, drop}
@@ -12,10 +12,10 @@ use Rattle.wire.specs.declared.sv.Parsed.{Parsed}
 use Rattle.wire.specs.declared.sv.Parsed.the-variants.{Frame, Error}
 use Rattle.wire.specs.declared.sv.ParsedSv.{ParsedSv}
 use Rattle.wire.specs.declared.places.SvPlaces.{SvPlaces}
+use Rattle.wire.specs.Field.{svidTag, datSetTag, smpCntTag, refrTmTag, smpRateTag, valueOr, secondsOr, fractionOr}
 use Rattle.wire.specs.Number.{pairAt, unsignedInt}
-use Rattle.wire.specs.Sv.{valueOr, secondsOr, fractionOr}
 
--- what the checks read of a frame: its source, its names and its numbers; and whether there is a count
+-- what the checks read of a frame: its source, its names and its numbers; and the answer, which is InvalidInput without a count
 pub record SvReading : Type 0 where
   pub source : List ℕ
   pub svid : List ℕ
@@ -24,11 +24,11 @@ pub record SvReading : Type 0 where
   pub «smp_rate» : ℕ
   pub seconds : ℕ
   pub fraction : ℕ
-  pub counted : Bool
+  pub answer : Parsed
 
 -- of a frame
-abbrev pub readingOf : Bool → SvFrame → SvReading
-readingOf counted f =
+abbrev pub readingOf : Parsed → SvFrame → SvReading
+readingOf answer f =
     record {
       source = f .«src_mac»;
       svid = nameOf (f .svid) (f .«svid_len»);
@@ -37,7 +37,7 @@ readingOf counted f =
       «smp_rate» = f .«smp_rate»;
       seconds = f .«t_seconds_since_epoch»;
       fraction = f .«t_fraction_of_second»;
-      counted = counted;
+      answer = answer;
     }
 
 -- of an ASDU from a source, with the names at their places, 64 octets at most
@@ -51,10 +51,10 @@ readingAt source asdu p =
       «smp_rate» = p .«smp_rate»;
       seconds = p .seconds;
       fraction = p .fraction;
-      counted = p .counted;
+      answer = p .answer;
     }
 
--- no field is read yet
+-- no field is read yet, or the ASDU is refused
 abbrev pub noPlaces : SvPlaces
 noPlaces =
     record {
@@ -66,7 +66,7 @@ noPlaces =
       «smp_rate» = 0;
       seconds = 0;
       fraction = 0;
-      counted = false;
+      answer = Error InvalidInput;
     }
 
 -- one more field, as a frame takes it: nothing of an earlier name is read
@@ -74,13 +74,13 @@ unfoldable pub withRead : SvReading → ℕ → List ℕ → SvReading
 withRead q tag content =
     record {
       source = q .source;
-      svid = cond (eqb tag 0x80) (take 64 content) (q .svid);
-      dataset = cond (eqb tag 0x81) (take 64 content) (q .dataset);
-      «smp_cnt» = cond (eqb tag 0x82) (pairAt content 0) (q .«smp_cnt»);
-      «smp_rate» = cond (eqb tag 0x86) (valueOr (q .«smp_rate») (unsignedInt content)) (q .«smp_rate»);
-      seconds = cond (eqb tag 0x84) (secondsOr (q .seconds) content) (q .seconds);
-      fraction = cond (eqb tag 0x84) (fractionOr (q .fraction) content) (q .fraction);
-      counted = cond (eqb tag 0x82) true (q .counted);
+      svid = cond (eqb tag svidTag) (take 64 content) (q .svid);
+      dataset = cond (eqb tag datSetTag) (take 64 content) (q .dataset);
+      «smp_cnt» = cond (eqb tag smpCntTag) (pairAt content 0) (q .«smp_cnt»);
+      «smp_rate» = cond (eqb tag smpRateTag) (valueOr (q .«smp_rate») (unsignedInt content)) (q .«smp_rate»);
+      seconds = cond (eqb tag refrTmTag) (secondsOr (q .seconds) content) (q .seconds);
+      fraction = cond (eqb tag refrTmTag) (fractionOr (q .fraction) content) (q .fraction);
+      answer = cond (eqb tag smpCntTag) Frame (q .answer);
     }
 
 -- a frame as it is read, or the error
@@ -88,16 +88,13 @@ pub data ReadSv : Type 0 where
   read : SvReading → ReadSv
   refused : VsError → ReadSv
 
--- a reading without a count is InvalidInput
-abbrev pub ifCounted : SvReading → ReadSv
-ifCounted q = cond (q .counted) (read q) (refused InvalidInput)
+-- a reading with its answer
+abbrev pub answered : SvReading → Parsed → ReadSv
+answered q Frame = read q
+answered q (Error e) = refused e
 
 abbrev pub placedReading : List ℕ → List ℕ → SvPlaces → ReadSv
-placedReading source asdu p = ifCounted (readingAt source asdu p)
-
-abbrev pub answeredReading : SvFrame → Parsed → ReadSv
-answeredReading f Frame = read (readingOf true f)
-answeredReading f (Error e) = refused e
+placedReading source asdu p = answered (readingAt source asdu p) (p .answer)
 
 abbrev pub parsedReading : ParsedSv → ReadSv
-parsedReading p = answeredReading (p .frame) (p .answer)
+parsedReading p = answered (readingOf Frame (p .frame)) (p .answer)

@@ -2,12 +2,19 @@
 use mathlib.Core.List.{List, [], _∷_, _++_}
 use Prim.Native.Nat.{ℕ}
 use Rattle.records.specs.Points.{Point}
-use Rattle.wire.specs.Element.{elementRow, contentOf, element}
+use Rattle.wire.specs.Element.{elementRow, element, Sought, found, missing, unread, contentOf}
 use Rattle.wire.specs.Sv.{parsedRow, svFrame}
+
+-- the octets of a part that was found
+abbrev pub foundOctets : Sought → List ℕ
+foundOctets (found octets) = octets
+foundOctets missing = []
+foundOctets (unread e) = []
 
 -- an element as a row, and its content
 abbrev pub elementPoint : List ℕ → List ℕ → Point
-elementPoint octets expected = record { computed = elementRow (element octets) ++ contentOf octets (element octets); expected = expected }
+elementPoint octets expected =
+    record { computed = elementRow (element octets) ++ foundOctets (contentOf octets (element octets)); expected = expected }
 
 -- the starred points of this crate, and that an unreadable frame is error 9
 abbrev pub wirePoints : List Point

@@ -6,14 +6,17 @@ use mathlib.Core.Path.{_≡_}
 use Rattle.records.specs.Frame.{defaultSv}
 use Rattle.records.specs.Row.{ValuesOr}
 use Rattle.wire.specs.declared.sv.ParsedSv.{ParsedSv}
-use Rattle.wire.specs.Element.{lengthRow, elementRow, lengthOf, element}
+use Rattle.wire.specs.Element.{lengthRow, headRow, elementRow, lengthOf, headOf, element}
 use Rattle.wire.specs.Header.{apduRow, header}
 use Rattle.wire.specs.Number.{unsignedRow, unsignedInt}
 use Rattle.wire.specs.Sv.{parsedRow, svFrame}
 
--- length octets, an element, an unsigned integer, and the APDU of a frame of an EtherType
+-- length octets, the head of an element, an element, an unsigned integer, and the APDU of a frame of an EtherType
 abbrev pub LengthRefusals : Type 0
 LengthRefusals = (octets : List ℕ) → ValuesOr 9 (lengthRow (lengthOf octets))
+
+abbrev pub HeadRefusals : Type 0
+HeadRefusals = (octets : List ℕ) → ValuesOr 9 (headRow (headOf octets))
 
 abbrev pub ElementRefusals : Type 0
 ElementRefusals = (octets : List ℕ) → ValuesOr 9 (elementRow (element octets))

@@ -1,14 +1,21 @@
-// Elements (X.690: tag, length, content), carried over from `parse_tlv` in industrial/iec61850-monitor/src/lib.rs of craton-shield
-// a31d888527 (Apache-2.0) and changed: the answer carries numbers, and two thin functions give the parts.
+// Elements (X.690: tag, length, content), carried over from `parse_tlv` and `decode_sv_apdu` in industrial/iec61850-monitor/src/lib.rs
+// of craton-shield a31d888527 (Apache-2.0) and changed: answers carry numbers, and two thin functions give the parts.
 ghost use mathlib.Core.Path.{_≡_};
-ghost use lib.ListN.{take, drop};
-ghost use Rattle.wire.specs.Element.{longForm, lengthOf, within, element, opened, elements, firstContent};
+ghost use lib.ListN.{length, take, drop};
+ghost use Rattle.wire.specs.Element.{longForm, lengthOf, headOf, within, element, elements, firstContent, opened, partOf, Within};
 use crate::number::big_endian;
+use records::error::VsError;
 
 // The length octets of an element: how many they are and the length that they state.
 pub enum Length {
     Definite { octets: usize, value: usize },
     Refused,
+}
+
+// The head of an element: its tag, where the content starts, and its length.
+pub enum Head {
+    Read { tag: u8, start: usize, len: usize },
+    Unreadable,
 }
 
 // An element at the front of some octets: its tag, where the content starts, its length, and where the rest starts.
@@ -20,6 +27,13 @@ pub enum Element {
         end: usize,
     },
     Unreadable,
+}
+
+// A part that is sought in some octets: where it starts and its length, that it is missing, or the error that ended the reading.
+pub enum Part {
+    At { start: usize, len: usize },
+    Missing,
+    Error(VsError),
 }
 
 // The long form: n further octets hold the length.
@@ -62,6 +76,27 @@ pub fn read_length(bytes: &[u8]) -> Length
     long_form(&bytes[1..], first - 0x80)
 }
 
+// The head of the element at the front of some octets, whatever follows it.
+pub fn read_head(bytes: &[u8]) -> Head
+    ensures { λ r. ⌜ r ≡ headOf (now (bytes .entry)) ⌝ }
+{
+    if bytes.len() < 2 {
+        return Head::Unreadable;
+    }
+    let tag = bytes[0];
+    if tag % 32 == 31 {
+        return Head::Unreadable;
+    }
+    let Length::Definite { octets, value } = read_length(&bytes[1..]) else {
+        return Head::Unreadable;
+    };
+    Head::Read {
+        tag: tag,
+        start: octets + 1,
+        len: value,
+    }
+}
+
 // Whether the content ends within so many octets.
 pub fn within(tag: u8, start: usize, len: usize, total: usize) -> Element
     ensures { λ r. ⌜ r ≡ within tag start len total ⌝ }
@@ -84,18 +119,10 @@ pub fn within(tag: u8, start: usize, len: usize, total: usize) -> Element
 pub fn parse_tlv(bytes: &[u8]) -> Element
     ensures { λ r. ⌜ r ≡ element (now (bytes .entry)) ⌝ }
 {
-    let n = bytes.len();
-    if n < 2 {
-        return Element::Unreadable;
-    }
-    let tag = bytes[0];
-    if tag % 32 == 31 {
-        return Element::Unreadable;
-    }
-    let Length::Definite { octets, value } = read_length(&bytes[1..]) else {
+    let Head::Read { tag, start, len } = read_head(bytes) else {
         return Element::Unreadable;
     };
-    within(tag, octets + 1, value, n)
+    within(tag, start, len, bytes.len())
 }
 
 // The content of an element: so many octets from a start on, as far as they go.
@@ -124,16 +151,17 @@ pub fn rest<'a>(bytes: &'a [u8], end: usize) -> &'a [u8]
     &bytes[end..]
 }
 
-// Some octets without the element that they begin with, if its tag is this one: its content is left. Nothing is left where that
-// element is unreadable.
-pub fn opened<'a>(bytes: &'a [u8], tag: u8) -> &'a [u8]
-    ensures { λ r. ⌜ now r ≡ opened tag (now (bytes .entry)) ⌝ }
+// The element at the front of some octets is opened, if its tag is this one: its content is the part. Otherwise they are left as they are.
+pub fn opened(bytes: &[u8], tag: u8) -> Part
+    ensures { λ r. ⌜ partOf (now (bytes .entry)) r ≡ opened tag (now (bytes .entry)) ⌝ }
+    ensures within { λ r. ⌜ Within (length (now (bytes .entry))) r ⌝ }
 {
-    if bytes.len() == 0 {
-        return bytes;
+    let n = bytes.len();
+    if n == 0 {
+        return Part::Missing;
     }
     if bytes[0] != tag {
-        return bytes;
+        return Part::At { start: 0, len: n };
     }
     let Element::Read {
         tag: _,
@@ -142,31 +170,37 @@ pub fn opened<'a>(bytes: &'a [u8], tag: u8) -> &'a [u8]
         end: _,
     } = parse_tlv(bytes)
     else {
-        return rest(bytes, bytes.len());
+        return Part::Error(VsError::InvalidInput);
     };
-    content(bytes, start, len)
+    Part::At {
+        start: start,
+        len: len,
+    }
 }
 
-// The content of the first element with this tag; nothing where there is none before the end or before an unreadable element.
-pub fn first_content<'a>(bytes: &'a [u8], tag: u8) -> &'a [u8]
-    ensures { λ r. ⌜ now r ≡ firstContent tag (elements (now (bytes .entry))) ⌝ }
+// The content of the first element with this tag. Nothing after it is read.
+pub fn first_content(bytes: &[u8], tag: u8) -> Part
+    ensures { λ r. ⌜ partOf (now (bytes .entry)) r ≡ firstContent tag (elements (now (bytes .entry))) ⌝ }
+    ensures within { λ r. ⌜ Within (length (now (bytes .entry))) r ⌝ }
 {
-    let mut unread = bytes;
-    while unread.len() > 0 {
+    let mut at: usize = 0;
+    while at < bytes.len() {
         let Element::Read {
-            tag: found,
+            tag: other,
             start,
             len,
             end,
-        } = parse_tlv(unread)
+        } = parse_tlv(&bytes[at..])
         else {
-            return rest(bytes, bytes.len());
+            return Part::Error(VsError::InvalidInput);
         };
-        if found == tag {
-            return content(unread, start, len);
+        if other == tag {
+            return Part::At {
+                start: at + start,
+                len: len,
+            };
         }
-        let more = rest(unread, end);
-        unread = more;
+        at = at + end;
     }
-    unread
+    Part::Missing
 }

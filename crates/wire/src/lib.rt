@@ -1,5 +1,6 @@
 // Reading frames: X.690 elements, the Ethernet header, and the sampled-values frame.
 pub mod element;
+pub mod field;
 pub mod header;
 pub mod number;
 pub mod places;

@@ -6,18 +6,26 @@ ghost use Prim.Native.Nat.{ℕ};
 ghost use lib.ListN.{take, drop, replicate};
 ghost use Rattle.wire.specs.Element.{elements};
 ghost use Rattle.wire.specs.Places.{noPlaces, readingAt, withRead, placedReading, parsedReading};
-ghost use Rattle.wire.specs.Sv.{overlaid, emptyFrame, fieldsFrom};
+ghost use Rattle.wire.specs.Field.{overlaid};
+ghost use Rattle.wire.specs.Sv.{emptyFrame, fieldsFrom};
 use crate::element::Element;
 use crate::element::content;
 use crate::element::parse_tlv;
+use crate::field::DAT_SET;
+use crate::field::REFR_TM;
+use crate::field::SMP_CNT;
+use crate::field::SMP_RATE;
+use crate::field::SVID;
+use crate::field::field_fits;
+use crate::field::fraction_or;
+use crate::field::overlay;
+use crate::field::rate_or;
+use crate::field::seconds_or;
 use crate::number::pair_at;
-use crate::sv::field_fits;
-use crate::sv::fraction_or;
-use crate::sv::overlay;
-use crate::sv::rate_or;
-use crate::sv::seconds_or;
+use crate::sv::Parsed;
+use records::error::VsError;
 
-// Where the names stand in an ASDU and how long they are, its numbers, and whether it has a count: one without is refused.
+// Where the names stand in an ASDU and how long they are, its numbers, and the answer, which is InvalidInput without a count.
 pub struct SvPlaces {
     pub svid_at: usize,
     pub svid_len: usize,
@@ -27,7 +35,7 @@ pub struct SvPlaces {
     pub smp_rate: u16,
     pub seconds: u32,
     pub fraction: u32,
-    pub counted: bool,
+    pub answer: Parsed,
 }
 
 // No field is read yet, or the ASDU is refused.
@@ -43,7 +51,7 @@ fn no_places() -> SvPlaces
         smp_rate: 0,
         seconds: 0,
         fraction: 0,
-        counted: false,
+        answer: Parsed::Error(VsError::InvalidInput),
     }
 }
 
@@ -53,32 +61,39 @@ fn with_place(p: SvPlaces, asdu: &[u8], tag: u8, at: usize, len: usize) -> SvPla
         ≡ withRead (readingAt source (now (asdu .entry)) p) tag (take len (drop at (now (asdu .entry))))) ⌝ }
 {
     let mut out = p;
-    if tag == 0x80 {
-        out.svid_at = at;
-        out.svid_len = len;
-        return out;
-    }
-    if tag == 0x81 {
-        out.dataset_at = at;
-        out.dataset_len = len;
-        return out;
-    }
     let field = content(asdu, at, len);
-    if tag == 0x82 {
-        out.smp_cnt = pair_at(field, 0);
-        out.counted = true;
-        return out;
+    match tag {
+        SVID => {
+            out.svid_at = at;
+            out.svid_len = len;
+        }
+        DAT_SET => {
+            out.dataset_at = at;
+            out.dataset_len = len;
+        }
+        SMP_CNT => {
+            out = SvPlaces {
+                svid_at: p.svid_at,
+                svid_len: p.svid_len,
+                dataset_at: p.dataset_at,
+                dataset_len: p.dataset_len,
+                smp_cnt: pair_at(field, 0),
+                smp_rate: p.smp_rate,
+                seconds: p.seconds,
+                fraction: p.fraction,
+                answer: Parsed::Frame,
+            };
+        }
+        REFR_TM => {
+            out.seconds = seconds_or(p.seconds, field);
+            out.fraction = fraction_or(p.fraction, field);
+        }
+        SMP_RATE => {
+            out.smp_rate = rate_or(p.smp_rate, field);
+        }
+        _ => {}
     }
-    if tag == 0x84 {
-        out.seconds = seconds_or(p.seconds, field);
-        out.fraction = fraction_or(p.fraction, field);
-        return out;
-    }
-    if tag == 0x86 {
-        out.smp_rate = rate_or(p.smp_rate, field);
-        return out;
-    }
-    p
+    out
 }
 
 // The places of an ASDU's fields, one after the other: the frame that they give, read where it stands.

@@ -1,7 +1,8 @@
 // A reader of elements, which holds what is still unread (01, "an element walk holds the part still unread"). It is thin: each step
 // calls a covered function of `element`.
 ghost use mathlib.Core.Path.{_≡_};
-ghost use Rattle.wire.specs.Element.{element, afterElement};
+ghost use Rattle.wire.specs.Element.{element};
+ghost use Rattle.wire.specs.Reader.{afterElement};
 use crate::element::Element;
 use crate::element::parse_tlv;
 use crate::element::rest;

@@ -1,73 +1,99 @@
--- `first_content` meets its contract. The invariant: what is sought in the unread octets is what is sought in all.
+-- `first_content` meets its contract. The invariant: what is sought from a place on is what is sought in all.
 use borrow.Author.Needs.{needs}
 use mathlib.Core.Path.{_≡_, refl, sym, _∙_}
 use native.Mathlib.Omega.{arith}
-use lib.ListN.{length, length-drop}
-use Rattle.wire.proofs.PartLaws.{rest-of-all}
+use Prim.Native.Nat.{_-_, _≤_}
+use lib.ListN.{length, drop, length-drop}
 use Rattle.wire.specs.Element.{elements, firstContent}
-use Rattle.wire.proofs.ElementLaws.{element-end, first-none, first-unreadable, first-same, first-other}
+use Rattle.wire.proofs.ElementLaws.{elements-none, unreadable-at, ends-at, read-at, first-none, first-failed, first-same, first-other}
 use Rattle.wire.proofs.element.first_content.Statement.{statement}
 use Rattle.wire.proofs.element.first_content.Tie as tie
 
 abbrev Inv-loop : tie.InvT-loop
-Inv-loop bytes tag unread₀ unread = firstContent tag (elements bytes) ≡ firstContent tag (elements unread)
+Inv-loop bytes tag at₀ at = (at ≤ length bytes) × (firstContent tag (elements bytes) ≡ firstContent tag (elements (drop at bytes)))
 
 abbrev μ-loop : tie.MeasureT-loop
-μ-loop bytes tag unread₀ unread = length unread
+μ-loop bytes tag at₀ at = length bytes - at
 
 loop-holds : tie.Need-loop-holds Inv-loop μ-loop
-loop-holds c = refl
+loop-holds c = (omega arith, refl)
+
+sub-parse-tlv : tie.Need-sub-parse-tlv Inv-loop μ-loop
+sub-parse-tlv c = omega arith
+
+part-parse-tlv-start : tie.Need-part-parse-tlv-start Inv-loop μ-loop
+part-parse-tlv-start c = omega arith
+
+part-parse-tlv-end : tie.Need-part-parse-tlv-end Inv-loop μ-loop
+part-parse-tlv-end c = omega arith
 
 parse-tlv-requires : tie.Need-parse-tlv-requires Inv-loop μ-loop
 parse-tlv-requires c κs = search needs
 
-enum-known-found : tie.Need-enum-known-found Inv-loop μ-loop
-enum-known-found c = search needs
+enum-known-other : tie.Need-enum-known-other Inv-loop μ-loop
+enum-known-other c = search needs
 
 enum-told : tie.Need-enum-told Inv-loop μ-loop
 enum-told c = search needs
 
-rest-requires : tie.Need-rest-requires Inv-loop μ-loop
-rest-requires c κs = search needs
-
 returns : tie.Need-returns Inv-loop μ-loop
 returns c =
-    let p = c .before .before .before in
-    let l = p .before .before .loop in
-    c .rest .ensures ∙ rest-of-all (p .before .before .before .before .args .bytes .now)
-    ∙ sym (l .inv ∙ first-unreadable _ (l .unread .now) (omega arith) (sym (p .parse-tlv .ensures) ∙ c .before .enum-told .given .1))
+    let p = c .before .before in
+    let l = p .before .before .before .loop in
+    (sym (l .inv .1 ∙ first-failed _ (unreadable-at _ (l .at) (p .parse-tlv .ensures) (omega arith) (c .enum-told .given .1))), tt)
 
-content-requires : tie.Need-content-requires Inv-loop μ-loop
-content-requires c κs = search needs
+add-t15 : tie.Need-add-t15 Inv-loop μ-loop
+add-t15 c =
+    let f = c .before .before in
+    let p = f .before .before in
+    let l = p .before .before .before .loop in
+    let bytes = p .before .before .before .before .before .args .bytes .now in
+    let w = ends-at bytes (l .at) (p .parse-tlv .ensures) (f .other .given .1) (l .inv .0) in
+    omega (arith, w .1, w .2)
 
 returns-2 : tie.Need-returns-2 Inv-loop μ-loop
 returns-2 c =
-    let f = c .before .before .before in
+    let f = c .before .before in
     let p = f .before .before in
-    let l = p .before .before .loop in
-    c .content .ensures ∙ sym (l .inv ∙ first-same _ (l .unread .now) (sym (p .parse-tlv .ensures) ∙ f .found .given .1) (c .before .if1 .taken))
+    let l = p .before .before .before .loop in
+    let bytes = p .before .before .before .before .before .args .bytes .now in
+    let w = ends-at bytes (l .at) (p .parse-tlv .ensures) (f .other .given .1) (l .inv .0) in
+    let r = read-at bytes (l .at) (p .parse-tlv .ensures) (f .other .given .1) in
+    (sym (l .inv .1 ∙ first-same _ r (c .if1 .taken)), omega (arith, w .1, w .2))
 
-rest-requires-2 : tie.Need-rest-requires-2 Inv-loop μ-loop
-rest-requires-2 c κs = search needs
+add-at : tie.Need-add-at Inv-loop μ-loop
+add-at c =
+    let f = c .before .before in
+    let p = f .before .before in
+    let l = p .before .before .before .loop in
+    let bytes = p .before .before .before .before .before .args .bytes .now in
+    let w = ends-at bytes (l .at) (p .parse-tlv .ensures) (f .other .given .1) (l .inv .0) in
+    omega (arith, w .1)
 
 loop-less : tie.Need-loop-less Inv-loop μ-loop
 loop-less c =
-    let f = c .before .before .before in
+    let f = c .before .before in
     let p = f .before .before in
-    let e = element-end (p .before .before .loop .unread .now) (sym (p .parse-tlv .ensures) ∙ f .found .given .1) in
-    rw (c .rest2 .ensures, length-drop) (omega arith)
+    let l = p .before .before .before .loop in
+    let bytes = p .before .before .before .before .before .args .bytes .now in
+    let w = ends-at bytes (l .at) (p .parse-tlv .ensures) (f .other .given .1) (l .inv .0) in
+    omega (arith, w .0, w .1)
 
 loop-again : tie.Need-loop-again Inv-loop μ-loop
 loop-again c =
-    let f = c .before .before .before in
+    let f = c .before .before in
     let p = f .before .before in
-    let l = p .before .before .loop in
-    l .inv ∙ first-other _ (l .unread .now) (sym (p .parse-tlv .ensures) ∙ f .found .given .1) (c .before .if1 .left) ∙ rw (c .rest2 .ensures)
+    let l = p .before .before .before .loop in
+    let bytes = p .before .before .before .before .before .args .bytes .now in
+    let w = ends-at bytes (l .at) (p .parse-tlv .ensures) (f .other .given .1) (l .inv .0) in
+    let r = read-at bytes (l .at) (p .parse-tlv .ensures) (f .other .given .1) in
+    (w .1, l .inv .1 ∙ first-other _ r (c .if1 .left))
 
 returns-3 : tie.Need-returns-3 Inv-loop μ-loop
 returns-3 c =
     let l = c .before .loop in
-    sym (l .inv ∙ first-none _ (l .unread .now) (omega arith))
+    let bytes = c .before .before .before .args .bytes .now in
+    (sym (l .inv .1 ∙ first-none _ (elements-none (drop (l .at) bytes) (simp length-drop (omega arith)))), tt)
 
 pub first-content-spec : {M : Type 1} → statement M
 first-content-spec =
@@ -76,14 +102,16 @@ first-content-spec =
     Inv-loop
     μ-loop
     loop-holds
+    sub-parse-tlv
+    part-parse-tlv-start
+    part-parse-tlv-end
     parse-tlv-requires
-    enum-known-found
+    enum-known-other
     enum-told
-    rest-requires
     returns
-    content-requires
+    add-t15
     returns-2
-    rest-requires-2
+    add-at
     loop-less
     loop-again
     returns-3)

@@ -1,20 +1,23 @@
 -- `opened` meets its contract.
 use native.Mathlib.Omega.{arith}
-use mathlib.Core.Path.{sym, _∙_}
-use Rattle.wire.proofs.PartLaws.{rest-of-all}
-use Rattle.wire.proofs.ElementLaws.{opened-none, opened-other, opened-refused, opened-read}
+use mathlib.Core.Path.{sym, _∙_, ap}
+use lib.Seq.{take-length}
+use Rattle.wire.specs.Element.{found}
+use Rattle.wire.proofs.ElementLaws.{element-end, opened-none, opened-other, opened-same}
 use borrow.Author.Needs.{needs}
 use Rattle.wire.proofs.element.opened.Statement.{statement}
 use Rattle.wire.proofs.element.opened.Tie as tie
 
 returns : tie.Need-returns
-returns c = sym (opened-none _ (c .before .before .args .bytes .now) (c .if1 .taken))
+returns c = (sym (opened-none _ (c .before .before .args .bytes .now) (c .if1 .taken)), tt)
 
 shared-slice-read-if2 : tie.Need-shared-slice-read-if2
 shared-slice-read-if2 c = search needs
 
 returns-2 : tie.Need-returns-2
-returns-2 c = sym (opened-other _ (c .before .before .before .before .args .bytes .now) (omega arith) (c .if2 .taken))
+returns-2 c =
+    let bytes = c .before .before .before .before .args .bytes .now in
+    (ap found (take-length bytes) ∙ sym (opened-other _ bytes (omega arith) (c .if2 .taken)), omega arith)
 
 parse-tlv-requires : tie.Need-parse-tlv-requires
 parse-tlv-requires c κs = search needs
@@ -25,25 +28,19 @@ enum-known-start c = search needs
 enum-told : tie.Need-enum-told
 enum-told c = search needs
 
-rest-requires : tie.Need-rest-requires
-rest-requires c κs = search needs
-
 returns-3 : tie.Need-returns-3
 returns-3 c =
-    let p = c .before .before .before in
+    let p = c .before .before in
     let bytes = p .before .before .before .before .before .args .bytes .now in
-    c .rest .ensures ∙ rest-of-all bytes
-    ∙ sym (opened-refused _ bytes (omega arith) (p .before .if2 .left) (sym (p .parse-tlv .ensures) ∙ c .before .enum-told .given .1))
-
-content-requires : tie.Need-content-requires
-content-requires c κs = search needs
+    (sym (opened-same _ bytes (omega arith) (p .before .if2 .left) (sym (p .parse-tlv .ensures) ∙ c .enum-told .given .1)), tt)
 
 returns-4 : tie.Need-returns-4
 returns-4 c =
-    let p = c .before .before .before .before in
+    let p = c .before .before .before in
     let bytes = p .before .before .before .before .before .args .bytes .now in
-    c .content .ensures
-    ∙ sym (opened-read _ bytes (omega arith) (p .before .if2 .left) (sym (p .parse-tlv .ensures) ∙ c .before .before .start .given .1))
+    let e = sym (p .parse-tlv .ensures) ∙ c .before .start .given .1 in
+    let b = element-end bytes e in
+    (sym (opened-same _ bytes (omega arith) (p .before .if2 .left) e), omega arith)
 
 pub opened-spec : {M : Type 1} → statement M
 opened-spec =
@@ -55,7 +52,5 @@ opened-spec =
     parse-tlv-requires
     enum-known-start
     enum-told
-    rest-requires
     returns-3
-    content-requires
     returns-4)

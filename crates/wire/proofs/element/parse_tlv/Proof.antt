@@ -1,72 +1,23 @@
 -- `parse_tlv` meets its contract.
-use native.Mathlib.Omega.{arith}
 use mathlib.Core.Path.{sym, _∙_}
-use Rattle.wire.proofs.ElementLaws.{element-short, element-high, element-refused, element-definite, definite}
+use Rattle.wire.proofs.ElementLaws.{element-by}
 use borrow.Author.Needs.{needs}
 use Rattle.wire.proofs.element.parse_tlv.Statement.{statement}
 use Rattle.wire.proofs.element.parse_tlv.Tie as tie
 
 returns : tie.Need-returns
-returns c = sym (element-short (c .before .before .args .bytes .now) (c .if1 .taken))
-
-shared-slice-read-tag : tie.Need-shared-slice-read-tag
-shared-slice-read-tag c = search needs
+returns c = sym (element-by _ (c .before .before .read-head .ensures) (c .enum-told .given .1))
 
 returns-2 : tie.Need-returns-2
-returns-2 c = sym (element-high (c .before .before .before .before .args .bytes .now) (omega arith) (c .if2 .taken))
-
-sub-read-length : tie.Need-sub-read-length
-sub-read-length c = search needs
-
-part-read-length-start : tie.Need-part-read-length-start
-part-read-length-start c = search needs
-
-part-read-length-end : tie.Need-part-read-length-end
-part-read-length-end c = search needs
-
-read-length-requires : tie.Need-read-length-requires
-read-length-requires c κs = search needs
-
-enum-known-octets : tie.Need-enum-known-octets
-enum-known-octets c = search needs
-
-enum-told : tie.Need-enum-told
-enum-told c = search needs
-
-returns-3 : tie.Need-returns-3
-returns-3 c =
-    let r = c .before .before in
-    sym (element-refused (r .before .before .before .before .before .before .args .bytes .now) (omega arith) (r .before .before .if2 .left) (r .read-length .ensures) (c .enum-told .given .1))
-
-add-within : tie.Need-add-within
-add-within c =
-    let r = c .before .before .before in
-    let d = definite _ (sym (r .read-length .ensures) ∙ c .before .octets .given .1) in
-    omega arith
-
-within-requires : tie.Need-within-requires
-within-requires c κs = search needs
-
-returns-4 : tie.Need-returns-4
-returns-4 c =
-    let r = c .before .before .before .before in
-    c .within .ensures
-    ∙ sym (element-definite (r .before .before .before .before .before .before .args .bytes .now) (omega arith) (r .before .before .if2 .left) (r .read-length .ensures) (c .before .before .octets .given .1))
+returns-2 c = c .within .ensures ∙ sym (element-by _ (c .before .before .before .before .read-head .ensures) (c .before .before .tag .given .1))
 
 pub parse-tlv-spec : {M : Type 1} → statement M
 parse-tlv-spec =
     tie.close
     (tie.spec
+    (λ c κs. search needs)
+    (λ c. search needs)
+    (λ c. search needs)
     returns
-    shared-slice-read-tag
-    returns-2
-    sub-read-length
-    part-read-length-start
-    part-read-length-end
-    read-length-requires
-    enum-known-octets
-    enum-told
-    returns-3
-    add-within
-    within-requires
-    returns-4)
+    (λ c κs. search needs)
+    returns-2)

@@ -5,7 +5,8 @@ use native.Mathlib.Omega.{arith}
 use borrow.Author.Needs.{needs}
 use borrow.Author.Tests.{not-true, not-false}
 use lib.ListN.{length}
-use Rattle.wire.proofs.PlaceLaws.{Walked, walked-none, refused-places, walked-all, walked-unreadable, walked-within, walked-unfit, walked-more}
+use Rattle.wire.proofs.ElementLaws.{ends-at}
+use Rattle.wire.proofs.PlaceLaws.{Walked, walked-none, refused-places, walked-all, walked-unreadable, walked-unfit, walked-more}
 use Rattle.wire.proofs.places.sv_places.Statement.{statement}
 use Rattle.wire.proofs.places.sv_places.Tie as tie
 
@@ -54,7 +55,8 @@ add-place c =
     let f = c .before in
     let p = f .before .before in
     let l = p .before .before .before .loop in
-    let w = walked-within _ (l .inv) (p .parse-tlv .ensures) (f .tag .given .1) (omega arith) in
+    let asdu = p .before .before .before .before .before .before .args .asdu .now in
+    let w = ends-at asdu (l .at) (p .parse-tlv .ensures) (f .tag .given .1) (l .inv .bound) in
     omega (arith, w .1, w .2)
 
 content-requires : tie.Need-content-requires Inv-loop μ-loop
@@ -84,7 +86,8 @@ add-at c =
     let f = c .before .before .before .before .before in
     let p = f .before .before in
     let l = p .before .before .before .loop in
-    let w = walked-within _ (l .inv) (p .parse-tlv .ensures) (f .tag .given .1) (omega arith) in
+    let asdu = p .before .before .before .before .before .before .args .asdu .now in
+    let w = ends-at asdu (l .at) (p .parse-tlv .ensures) (f .tag .given .1) (l .inv .bound) in
     omega (arith, w .1, w .2)
 
 loop-less : tie.Need-loop-less Inv-loop μ-loop
@@ -92,7 +95,8 @@ loop-less c =
     let f = c .before .before .before .before .before in
     let p = f .before .before in
     let l = p .before .before .before .loop in
-    let w = walked-within _ (l .inv) (p .parse-tlv .ensures) (f .tag .given .1) (omega arith) in
+    let asdu = p .before .before .before .before .before .before .args .asdu .now in
+    let w = ends-at asdu (l .at) (p .parse-tlv .ensures) (f .tag .given .1) (l .inv .bound) in
     omega (arith, w .0, w .1)
 
 loop-again : tie.Need-loop-again Inv-loop μ-loop
@@ -102,7 +106,7 @@ loop-again c =
     let p = f .before .before in
     let l = p .before .before .before .loop in
     walked-more _ (l .inv) (p .parse-tlv .ensures) (f .tag .given .1) (ff .before .content .ensures) (ff .field-fits .ensures)
-    (not-false _ (c .before .if1 .left)) (omega arith) (c .with-place .ensures)
+    (not-false _ (c .before .if1 .left)) (c .with-place .ensures)
 
 returns-3 : tie.Need-returns-3 Inv-loop μ-loop
 returns-3 c source time = walked-all _ (c .before .loop .inv) (omega arith) source time

@@ -2,7 +2,7 @@
 use borrow.Author.Needs.{needs}
 use mathlib.Core.Path.{sym, _∙_, ap}
 use Rattle.wire.proofs.PartLaws.{rest-of-all}
-use Rattle.wire.specs.Element.{afterElement}
+use Rattle.wire.specs.Reader.{afterElement}
 use Rattle.wire.proofs.reader.after.Statement.{statement}
 use Rattle.wire.proofs.reader.after.Tie as tie
 

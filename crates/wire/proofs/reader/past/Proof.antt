@@ -42,7 +42,7 @@ use denote.Triple.Table.{entered, cited}
 use denote.Triple.Walked.{says, Stays, stay-none, walkOf, goes-none, Walks, ends-at, walked, walk-meets}
 use denote.Exit.{yes}
 use denote.Triple.Clauses.{ensured, lasts}
-use Rattle.wire.specs.Element.{afterElement}
+use Rattle.wire.specs.Reader.{afterElement}
 use Rattle.wire.specs.declared.reader.ElementReader.{ElementReader}
 use Rattle.wire.specs.declared.element.Element.{Element}
 use Rattle.wire.proofs.reader.ElementReader as T

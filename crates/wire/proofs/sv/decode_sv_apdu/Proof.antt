@@ -1,13 +1,29 @@
 -- `decode_sv_apdu` meets its contract.
 use mathlib.Core.Path.{_∙_}
-use Rattle.wire.specs.Sv.{apduFrame}
 use borrow.Author.Needs.{needs}
+use Rattle.wire.proofs.SvLaws.{frame-none, frame-at}
 use Rattle.wire.proofs.sv.decode_sv_apdu.Statement.{statement}
 use Rattle.wire.proofs.sv.decode_sv_apdu.Tie as tie
 
 returns : tie.Need-returns
-unfolding apduFrame
-returns c = c .read-fields .ensures ∙ rw (c .before .sv-asdu .ensures, c .before .before .default .ensures)
+returns c = c .refused-sv .ensures ∙ frame-none _ _ _ (c .before .before .sv-asdu .result) (c .before .before .sv-asdu .ensures) (c .before .match .keys2)
+
+returns-2 : tie.Need-returns-2
+returns-2 c =
+    let d = c .before .before in
+    c .read-fields .ensures
+    ∙ rw (c .before .content .ensures, d .default .ensures)
+    (frame-at _ _ _ (d .before .before .before .before .sv-asdu .result) (d .before .before .before .before .sv-asdu .ensures) (d .before .before .start .given .1))
 
 pub decode-sv-apdu-spec : {M : Type 1} → statement M
-decode-sv-apdu-spec = tie.close (tie.spec (λ c κs. search needs) (λ c κs. search needs) (λ c κs. search needs) returns)
+decode-sv-apdu-spec =
+    tie.close
+    (tie.spec
+    (λ c κs. search needs)
+    (λ c. search needs)
+    (λ c κs. search needs)
+    returns
+    (λ c κs. search needs)
+    (λ c κs. search needs)
+    (λ c κs. search needs)
+    returns-2)

@@ -52,7 +52,8 @@ use Rattle.wire.specs.declared.element.Element.{Element}
 use Rattle.wire.specs.declared.reader.ElementReader.{ElementReader}
 use Rattle.wire.specs.declared.sv.ParsedSv.{ParsedSv}
 use Rattle.wire.specs.declared.sv.SvFields.{SvFields}
-use Rattle.wire.specs.Element.{element, elements, ended, afterElement}
+use Rattle.wire.specs.Element.{element, elements, ended}
+use Rattle.wire.specs.Reader.{afterElement}
 use Rattle.wire.specs.Sv.{fieldsFrom, fieldsOn, noFields, goesOn, withElement}
 use Rattle.wire.proofs.SvLaws.{fields-start, fields-turn, less-unread, fields-end}
 use Rattle.wire.proofs.reader.ElementReader as T

@@ -5,8 +5,8 @@ use lib.ListN.{length}
 use borrow.Author.Needs.{needs}
 use borrow.Author.Tests.{le-leb, lt-leb}
 use Rattle.records.proofs.Booleans.{cond-yes, cond-no}
-use Rattle.wire.proofs.sv.seconds_or.Statement.{statement}
-use Rattle.wire.proofs.sv.seconds_or.Tie as tie
+use Rattle.wire.proofs.field.seconds_or.Statement.{statement}
+use Rattle.wire.proofs.field.seconds_or.Tie as tie
 
 returns : tie.Need-returns
 returns c = let n = length (c .before .before .args .time .now) in sym (cond-no _ _ (lt-leb 4 n (omega arith)))

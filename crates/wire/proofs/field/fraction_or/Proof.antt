@@ -6,8 +6,8 @@ use lib.Seq.{take-all}
 use borrow.Author.Needs.{needs}
 use borrow.Author.Tests.{le-leb, lt-leb}
 use Rattle.records.proofs.Booleans.{cond-yes, cond-no}
-use Rattle.wire.proofs.sv.fraction_or.Statement.{statement}
-use Rattle.wire.proofs.sv.fraction_or.Tie as tie
+use Rattle.wire.proofs.field.fraction_or.Statement.{statement}
+use Rattle.wire.proofs.field.fraction_or.Tie as tie
 
 returns : tie.Need-returns
 returns c = let n = length (c .before .before .args .time .now) in sym (cond-no _ _ (lt-leb 7 n (omega arith)))

@@ -7,9 +7,9 @@ use lib.ListN.{length}
 use Rattle.records.specs.Name.{validLen}
 use Rattle.records.specs.Octets.{octetAt, overwritten}
 use Rattle.records.proofs.NameLaws.{overwritten-more}
-use Rattle.wire.specs.Sv.{overlaid}
-use Rattle.wire.proofs.sv.overlay.Statement.{statement}
-use Rattle.wire.proofs.sv.overlay.Tie as tie
+use Rattle.wire.specs.Field.{overlaid}
+use Rattle.wire.proofs.field.overlay.Statement.{statement}
+use Rattle.wire.proofs.field.overlay.Tie as tie
 
 abbrev Inv-loop : tie.InvT-loop
 Inv-loop name₀ content n i₀ name i =

@@ -1,8 +1,8 @@
 -- `rate_or` meets its contract.
 use mathlib.Core.Path.{sym, _∙_}
 use borrow.Author.Needs.{needs}
-use Rattle.wire.proofs.sv.rate_or.Statement.{statement}
-use Rattle.wire.proofs.sv.rate_or.Tie as tie
+use Rattle.wire.proofs.field.rate_or.Statement.{statement}
+use Rattle.wire.proofs.field.rate_or.Tie as tie
 
 returns : tie.Need-returns
 returns c = rw (sym (c .before .before .decode-unsigned-int .ensures) ∙ c .enum-told .given .1)
