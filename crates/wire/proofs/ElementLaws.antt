@@ -104,9 +104,15 @@ module _ (octets : List ℕ) where
 
 -- the element, by its head
 module _ (octets : List ℕ) {h : Head} (e : h ≡ headOf octets) where
-  pub element-by : {g : Head} → h ≡ g → element octets ≡ headed (length octets) g
+  element-by : {g : Head} → h ≡ g → element octets ≡ headed (length octets) g
   unfolding element
   element-by q = ap (headed (length octets)) (sym e ∙ q)
+
+  pub element-headless : h ≡ head.Unreadable → element octets ≡ Unreadable
+  element-headless q = element-by q
+
+  pub element-headed : {tag start len : ℕ} → h ≡ head.Read tag start len → element octets ≡ within tag start len (length octets)
+  element-headed q = element-by q
 
 -- length octets that are read are one to five
 pub definite : (octets : List ℕ) {used value : ℕ} → lengthOf octets ≡ Definite used value → (1 ≤ used) × (used ≤ 5)
