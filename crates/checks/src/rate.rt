@@ -3,6 +3,7 @@
 ghost use mathlib.Core.Path.{_≡_};
 ghost use Prim.Native.Nat.{_<_};
 ghost use lib.ListN.{length};
+ghost use Rattle.records.specs.Bucket.{nextCall};
 ghost use Rattle.tables.specs.Place.{ifKnown};
 ghost use Rattle.checks.specs.Rate.{bucketAt, bucketCall, rateChecked};
 use records::bucket::BucketCall;
@@ -30,6 +31,18 @@ fn bucket_at(t: &[u64], slot: usize) -> RateBucket
     }
 }
 
+// A call on a bucket that is lent for it.
+fn lent_call(kept: RateBucket, now_us: u64) -> BucketCall
+    ensures { λ r. ⌜ r ≡ nextCall kept «now_us» ⌝ }
+{
+    let mut lent = kept;
+    let allowed = lent.try_consume(now_us);
+    BucketCall {
+        bucket: lent,
+        allowed: allowed,
+    }
+}
+
 // A request's call of its bucket, which is new where the request's key was not known.
 fn bucket_call(known: bool, kept: RateBucket, max_rate: u16, now_us: u64) -> BucketCall
     ensures { λ r. ⌜ r ≡ bucketCall (ifKnown known kept) («max_rate», «now_us») ⌝ }
@@ -40,7 +53,7 @@ fn bucket_call(known: bool, kept: RateBucket, max_rate: u16, now_us: u64) -> Buc
             bucket: RateBucket::first_call(max_rate, now_us),
         };
     }
-    kept.next_call(now_us)
+    lent_call(kept, now_us)
 }
 
 // Takes a request into the table of buckets, and answers whether it is within its rate. A new key's request is; an existing bucket keeps

@@ -61,8 +61,10 @@ fn bucket_points() {
         capacity: 10,
         last_refill_us: 0,
     };
-    write_number(b"bucket 99999: ", flag(b.allows(99_999)));
-    write_number(b"bucket 100000: ", flag(b.allows(100_000)));
+    let early = b.next_call(99_999);
+    write_number(b"bucket 99999: ", flag(early.allowed));
+    let due = b.next_call(100_000);
+    write_number(b"bucket 100000: ", flag(due.allowed));
 }
 
 // The first vectors of the FNV reference source (test_fnv.c).

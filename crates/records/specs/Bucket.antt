@@ -1,6 +1,6 @@
 -- The token bucket (01, "Bucket": capacity per second, tokens, time of last refill in µs).
 use Prim.Native.Nat.{ℕ, _+_, _*_, _/_, _^_, min, _-_}
-use mathlib.Core.Bool.{Bool, cond}
+use mathlib.Core.Bool.{cond}
 use lib.Dec.{ltb, eqb}
 use Rattle.records.specs.declared.bucket.RateBucket.{RateBucket}
 use Rattle.records.specs.declared.bucket.BucketCall.{BucketCall}
@@ -28,17 +28,13 @@ refilledBy b time added =
 unfoldable pub refilled : RateBucket → ℕ → RateBucket
 refilled b time = refilledBy b time (refill (time - b .«last_refill_us») (b .capacity))
 
--- a call is allowed if there is a token after refilling
-unfoldable pub allows : RateBucket → ℕ → Bool
-allows b time = ltb 0 (refilled b time .tokens)
+-- a call takes a token if there is one, and is allowed if there was
+abbrev pub tokenTaken : RateBucket → BucketCall
+tokenTaken b = record { bucket = bucketWith b (b .tokens - 1) (b .«last_refill_us»); allowed = ltb 0 (b .tokens) }
 
--- then one token is taken if there is one
-unfoldable pub consumed : RateBucket → ℕ → RateBucket
-consumed b time = bucketWith (refilled b time) (refilled b time .tokens - 1) (refilled b time .«last_refill_us»)
-
--- a call gives both: the bucket after it, and whether it was allowed
-abbrev pub nextCall : RateBucket → ℕ → BucketCall
-nextCall b time = record { bucket = consumed b time; allowed = allows b time }
+-- a call at a time: after refilling
+unfoldable pub nextCall : RateBucket → ℕ → BucketCall
+nextCall b time = tokenTaken (refilled b time)
 
 -- a new bucket holds capacity − 1 after its first call
 abbrev pub firstCall : ℕ → ℕ → RateBucket

@@ -7,7 +7,7 @@ use mathlib.Core.List.{List, [], _∷_}
 use Rattle.records.specs.declared.bucket.RateBucket.{RateBucket}
 use Rattle.records.specs.Schedule.{defaultSchedule, expectedInterval}
 use Rattle.records.specs.Hash.{fnv1a}
-use Rattle.records.specs.Bucket.{allows}
+use Rattle.records.specs.Bucket.{nextCall}
 
 -- what is computed, and what it must be
 pub record Point : Type 0 where
@@ -40,6 +40,6 @@ recordsPoints =
     ∷ number (expectedInterval defaultSchedule 7) 512000
     ∷ number (expectedInterval defaultSchedule 8) 1000000
     ∷ number (expectedInterval defaultSchedule 32) 1000000
-    ∷ number (flag (allows emptyTen 99999)) 0
-    ∷ number (flag (allows emptyTen 100000)) 1
+    ∷ number (flag (nextCall emptyTen 99999 .allowed)) 0
+    ∷ number (flag (nextCall emptyTen 100000 .allowed)) 1
     ∷ []

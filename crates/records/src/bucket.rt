@@ -1,7 +1,7 @@
 // Carried over from industrial/types-ind/src/lib.rs of craton-shield a31d888527 (Apache-2.0) and changed: the work is on a
 // bucket by value, and `try_consume` puts its outcome into a lent one; its key and its use belong to the table that keeps it.
 ghost use mathlib.Core.Path.{_≡_};
-ghost use Rattle.records.specs.Bucket.{refill, tokensWith, refilled, allows, consumed, nextCall, firstCall};
+ghost use Rattle.records.specs.Bucket.{refill, tokensWith, refilled, nextCall, firstCall};
 
 // A token bucket: tokens per second, tokens left, and the time of the last refill.
 pub struct RateBucket {
@@ -65,46 +65,29 @@ impl RateBucket {
         out
     }
 
-    // Whether a call at a time is allowed: whether it finds a token.
-    pub fn allows(self, now_us: u64) -> bool
-        ensures { λ r. ⌜ r ≡ allows self «now_us» ⌝ }
+    // A call at a time: the bucket is refilled, and the call takes a token if there is one.
+    pub fn next_call(self, now_us: u64) -> BucketCall
+        ensures { λ r. ⌜ r ≡ nextCall self «now_us» ⌝ }
     {
-        let b = self.refilled(now_us);
-        b.tokens > 0
-    }
-
-    // After a call at a time: refilled, and one token taken if there is one.
-    pub fn consumed(self, now_us: u64) -> Self
-        ensures { λ r. ⌜ r ≡ consumed self «now_us» ⌝ }
-    {
-        let mut b = self.refilled(now_us);
-        if b.tokens > 0 {
-            b.tokens = b.tokens - 1;
+        let mut bucket = self.refilled(now_us);
+        let allowed = bucket.tokens > 0;
+        if allowed {
+            bucket.tokens = bucket.tokens - 1;
         }
-        b
+        BucketCall {
+            bucket: bucket,
+            allowed: allowed,
+        }
     }
 
     // A call on a lent bucket: the answer, and the bucket changed in its place.
     pub fn try_consume(&mut self, now_us: u64) -> bool
-        ensures { λ r.
-            ⌜ (r ≡ allows (now (self .entry)) «now_us») × (now (self .exit) ≡ consumed (now (self .entry)) «now_us») ⌝ }
+        ensures { λ r. ⌜ record { bucket = now (self .exit); allowed = r } ≡ nextCall (now (self .entry)) «now_us» ⌝ }
     {
         let kept = *self;
-        let allowed = kept.allows(now_us);
-        *self = kept.consumed(now_us);
-        allowed
-    }
-
-    // A call on a bucket by value, which is lent for it.
-    pub fn next_call(self, now_us: u64) -> BucketCall
-        ensures { λ r. ⌜ r ≡ nextCall self «now_us» ⌝ }
-    {
-        let mut lent = self;
-        let allowed = lent.try_consume(now_us);
-        BucketCall {
-            bucket: lent,
-            allowed: allowed,
-        }
+        let call = kept.next_call(now_us);
+        *self = call.bucket;
+        call.allowed
     }
 
     // A new bucket after its first call, which it allows.
