@@ -3,8 +3,8 @@ use crate::write_number;
 use crate::write_octets;
 use libc::STDOUT_FILENO;
 use records::frame::SvFrame;
+use records::octets::put_octets;
 use wire::element::content;
-use wire::number::octet_at;
 use wire::sv::Parsed;
 use wire::sv::parse_sv;
 
@@ -97,22 +97,6 @@ fn other_frames() {
     );
 }
 
-// An octet at a place, if there is such a place.
-fn put(octets: &mut [u8; 96], at: usize, octet: u8) {
-    if at < 96 {
-        octets[at] = octet;
-    }
-}
-
-// A field's content from place 26 on.
-fn put_field(octets: &mut [u8; 96], field: &[u8]) {
-    let mut i: usize = 0;
-    while i < 65 {
-        put(octets, 26 + i, octet_at(field, i));
-        i += 1;
-    }
-}
-
 // The frame in the first octets.
 fn write_front<'a>(label: &'a [u8], octets: &'a [u8; 96], n: usize) {
     write_frame(label, content(octets, 0, n));
@@ -132,11 +116,8 @@ fn write_field(label: &[u8], tag: u8, field: &[u8]) {
     octets[23] = (n + 6) as u8;
     octets[24] = tag;
     octets[25] = n as u8;
-    put_field(&mut octets, field);
-    put(&mut octets, 26 + n, 0x82);
-    put(&mut octets, 27 + n, 0x02);
-    put(&mut octets, 28 + n, 0x01);
-    put(&mut octets, 29 + n, 0xf4);
+    put_octets(&mut octets, 26, field);
+    put_octets(&mut octets, 26 + n, b"\x82\x02\x01\xf4");
     write_front(label, &octets, 30 + n);
 }
 

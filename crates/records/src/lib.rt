@@ -1,4 +1,4 @@
-// The lowest crate of the IEC 61850 monitor: numbers and enums, alerts, results, verdicts, frames, schedule, hash, bucket, names.
+// The lowest crate of the IEC 61850 monitor: numbers and enums, alerts, results, verdicts, frames, schedule, hash, bucket, names, octets.
 pub mod alert;
 pub mod bucket;
 pub mod counter;
@@ -6,6 +6,7 @@ pub mod error;
 pub mod frame;
 pub mod hash;
 pub mod name;
+pub mod octets;
 pub mod result;
 pub mod schedule;
 pub mod search;

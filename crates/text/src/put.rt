@@ -4,19 +4,6 @@ ghost use Prim.Native.Nat.{_+_, _*_, _≤_};
 ghost use lib.ListN.{length};
 ghost use Rattle.io.specs.Counts.{Counts};
 
-// Puts octets into the line, which has room for them.
-fn put_all(line: &mut [u8], at: usize, octets: &[u8]) -> usize
-    requires { ⌜ at + length (now octets) ≤ length (now line) ⌝ }
-    ensures { λ r. ⌜ Counts r (now (line .exit)) ⌝ }
-{
-    let mut i: usize = 0;
-    while i < octets.len() {
-        line[at + i] = octets[i];
-        i += 1;
-    }
-    at + i
-}
-
 // Puts octets into the line as they are.
 pub fn put_octets(line: &mut [u8], at: usize, octets: &[u8]) -> usize
     requires { ⌜ at ≤ length (now line) ⌝ }
@@ -25,48 +12,24 @@ pub fn put_octets(line: &mut [u8], at: usize, octets: &[u8]) -> usize
     if octets.len() > line.len() - at {
         return at;
     }
-    put_all(line, at, octets)
+    records::octets::put_octets(line, at, octets);
+    at + octets.len()
 }
 
-// Puts the digits of a number at the end of `digits`, and answers where they begin.
-fn digits_of(number: u64, digits: &mut [u8; 20]) -> usize
-    ensures { λ r. ⌜ r ≤ 20 ⌝ }
-{
-    let mut rest = number;
-    let mut i: usize = 20;
-    while i > 0 && rest > 0 {
-        i -= 1;
-        digits[i] = 48 + (rest % 10) as u8;
-        rest = rest / 10;
-    }
-    i
-}
-
-// Copies n of the digits, from the first on, into the line.
-fn copy_digits(line: &mut [u8], at: usize, digits: &[u8; 20], first: usize, n: usize)
-    requires { ⌜ at + n ≤ length (now line) ⌝ }
-    requires { ⌜ first + n ≤ 20 ⌝ }
-{
-    let mut i: usize = 0;
-    while i < n {
-        line[at + i] = digits[first + i];
-        i += 1;
-    }
-}
-
-// Puts the decimal digits of a number other than 0.
+// Puts the decimal digits of a number other than 0, of which it has 20 at most.
 fn put_digits(line: &mut [u8], at: usize, number: u64) -> usize
     requires { ⌜ at ≤ length (now line) ⌝ }
     ensures { λ r. ⌜ Counts r (now (line .exit)) ⌝ }
 {
     let mut digits = [0u8; 20];
-    let first = digits_of(number, &mut digits);
-    let n = 20 - first;
-    if n > line.len() - at {
-        return at;
+    let mut rest = number;
+    let mut first: usize = 20;
+    while first > 0 && rest > 0 {
+        first -= 1;
+        digits[first] = 48 + (rest % 10) as u8;
+        rest = rest / 10;
     }
-    copy_digits(line, at, &digits, first, n);
-    at + n
+    put_octets(line, at, &digits[first..])
 }
 
 // Puts a word and a number's decimal digits. Most numbers have one.

@@ -8,6 +8,9 @@ use Rattle.text.proofs.put.put_octets.Tie as tie
 returns : tie.Need-returns
 returns c = counts _ _ (omega arith)
 
+returns-2 : tie.Need-returns-2
+returns-2 c = counts _ _ (omega arith)
+
 pub put-octets-spec : {M : Type 1} → statement M
 put-octets-spec =
-    tie.close (tie.spec (λ c. search needs) returns (λ c κs. search needs) (λ c. search needs) (λ c. search needs))
+    tie.close (tie.spec (λ c. search needs) returns (λ c κs. search needs) (λ c. search needs) (λ c. search needs) returns-2)

@@ -1,0 +1,35 @@
+// Octets put into a buffer that is lent, for every writer.
+ghost use Prim.Native.Nat.{_+_, _≤_};
+ghost use mathlib.Core.Path.{_≡_};
+ghost use lib.ListN.{length};
+ghost use Rattle.records.specs.Octets.{octetAt, overwritten};
+
+// Puts the first `n` octets from a place on, where there is room for them.
+fn put_first(buffer: &mut [u8], at: usize, octets: &[u8], n: usize)
+    requires { ⌜ (n ≤ length (now octets)) × (at + n ≤ length (now buffer)) ⌝ }
+    ensures { λ _. ⌜ now (buffer .exit) ≡ overwritten (now (buffer .entry)) at (octetAt (now (octets .entry))) n ⌝ }
+{
+    let mut i: usize = 0;
+    while i < n {
+        buffer[at + i] = octets[i];
+        i += 1;
+    }
+}
+
+// Puts octets from a place on, as far as there is room. Where there is room for all, their own number is the loop's, so that a caller's eight
+// octets are one store.
+pub fn put_octets(buffer: &mut [u8], at: usize, octets: &[u8])
+    ensures { λ _. ⌜ now (buffer .exit)
+        ≡ overwritten (now (buffer .entry)) at (octetAt (now (octets .entry))) (length (now (octets .entry))) ⌝ }
+{
+    let len = buffer.len();
+    if at > len {
+        return;
+    }
+    let room = len - at;
+    if room < octets.len() {
+        put_first(buffer, at, octets, room);
+    } else {
+        put_first(buffer, at, octets, octets.len());
+    }
+}
