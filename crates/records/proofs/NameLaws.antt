@@ -118,15 +118,15 @@ module _ (f g : ℕ → ℕ) where
 -- ---- what a slot holds after a name is stored
 
 module _ (l : List ℕ) (start : ℕ) (f : ℕ → ℕ) where
-  pub overwritten-in : (n k : ℕ) → k < n → start + n ≤ length l → octetAt (overwritten l start f n) (start + k) ≡ f k
+  pub overwritten-in : (n k : ℕ) → k < n → start + k < length l → octetAt (overwritten l start f n) (start + k) ≡ f k
   unfolding overwritten
   overwritten-in zero k h w = absurd (not-suc-le-zero h)
   overwritten-in (suc n) k h w = go (ℕ-discrete k n) (overwritten-in n k)
     where
-      go : Dec (k ≡ n) → (k < n → start + n ≤ length l → octetAt (overwritten l start f n) (start + k) ≡ f k)
+      go : Dec (k ≡ n) → (k < n → start + k < length l → octetAt (overwritten l start f n) (start + k) ≡ f k)
           → octetAt (set (overwritten l start f n) (start + n) (f n)) (start + k) ≡ f k
       go (yes e) ih = rw e (getD-set-same (overwritten l start f n) (start + n) (f n) 0 (omega (arith, length-overwritten l f start n)))
-      go (no e) ih = getD-set-other (overwritten l start f n) (start + n) (start + k) (f n) 0 (λ q. e (omega arith)) ∙ ih (omega arith) (omega arith)
+      go (no e) ih = getD-set-other (overwritten l start f n) (start + n) (start + k) (f n) 0 (λ q. e (omega arith)) ∙ ih (omega arith) w
 
   pub overwritten-out : (n k : ℕ) → ((j : ℕ) → j < n → k ≡ start + j → ⊥) → octetAt (overwritten l start f n) k ≡ octetAt l k
   unfolding overwritten
