@@ -2,9 +2,9 @@
 ghost use Prim.Native.Nat.{_≤_};
 ghost use lib.ListN.{length};
 ghost use Rattle.io.specs.Counts.{Counts};
+use records::octets::least;
 use text::put::put_octets;
 use text::words::short_word_end;
-use wire::number::least;
 
 // How many octets the table has: 24 for each name.
 pub const NAMES_LEN: usize = 1152;

@@ -5,6 +5,7 @@ ghost use Rattle.io.specs.Counts.{Counts};
 use crate::frame::put_parsed;
 use records::bucket::BucketCall;
 use records::bucket::RateBucket;
+use records::octets::octet_at;
 use records::schedule::RetxSchedule;
 use records::service::MmsServiceType;
 use script::arguments::rest_at;
@@ -14,7 +15,6 @@ use script::arguments::u64_at;
 use script::frames::schedule;
 use text::put::put_flag;
 use text::put::put_number;
-use wire::number::octet_at;
 use wire::sv::parse_sv;
 
 // Puts a service: its number, and whether it writes.

@@ -11,8 +11,8 @@ use inspection::report::none_found;
 use inspection::report::noted_on;
 use lent::sv::check_sv_lent;
 use monitor::parts::WORDS;
+use records::octets::least;
 use records::verdict::put_verdict;
-use wire::number::least;
 
 // How many frames are inspected: whole records, with room for a verdict of each.
 fn batch_count(frames_len: usize, verdicts_len: usize) -> usize

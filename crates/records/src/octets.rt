@@ -1,8 +1,25 @@
-// Octets put into a buffer that is lent, for every writer.
-ghost use Prim.Native.Nat.{_+_, _≤_};
+// Octets read at a place, and put into a buffer that is lent, for every reader and writer.
+ghost use Prim.Native.Nat.{_+_, _≤_, min};
 ghost use mathlib.Core.Path.{_≡_};
 ghost use lib.ListN.{length};
 ghost use Rattle.records.specs.Octets.{octetAt, overwritten};
+
+// The octet at a place, 0 past the end.
+pub fn octet_at(bytes: &[u8], i: usize) -> u8
+    ensures { λ r. ⌜ r ≡ octetAt (now (bytes .entry)) i ⌝ }
+{
+    if i < bytes.len() {
+        return bytes[i];
+    }
+    0
+}
+
+// The smaller of two numbers.
+pub fn least(a: usize, b: usize) -> usize
+    ensures { λ r. ⌜ r ≡ min a b ⌝ }
+{
+    if a < b { a } else { b }
+}
 
 // Puts the first `n` octets from a place on, where there is room for them.
 fn put_first(buffer: &mut [u8], at: usize, octets: &[u8], n: usize)

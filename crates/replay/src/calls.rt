@@ -25,6 +25,7 @@ use monitor::settings::set_mms_service_mask_on;
 use monitor::settings::set_retx_schedule_on;
 use monitor::settings::set_sv_max_smp_cnt_gap_on;
 use monitor::settings::set_time_max_forward_jump_s_on;
+use records::octets::octet_at;
 use records::result::InspectResult;
 use script::arguments::flag_at;
 use script::arguments::mac_at;
@@ -37,7 +38,6 @@ use script::frames::mms_frame;
 use script::frames::schedule;
 use script::frames::sv_frame;
 use text::put::put_octets;
-use wire::number::octet_at;
 
 // One of the calls 0 to 9, which answer nothing; call 3 asks for the totals, which every line has.
 fn settle(m: &mut [u64; WORDS], number: u8, call: &[u8]) {

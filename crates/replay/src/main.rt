@@ -10,6 +10,7 @@ use libc::STDOUT_FILENO;
 use monitor::parts::WORDS;
 use monitor::reset::new_on;
 use records::counter::saturating_increment;
+use records::octets::least;
 use script::arguments::front;
 use script::input::Input;
 use script::input::behind_line;
@@ -19,7 +20,6 @@ use script::input::refilled;
 use script::line::CALLS;
 use script::line::CALLS_LEN;
 use script::line::Line;
-use wire::number::least;
 
 // How many lines were read; where the next one stands in the input buffer; where the answers end in the output buffer; where the record
 // ends of the call that is to be made, 0 if there is none; whether the input has ended; and whether to go on.

@@ -2,9 +2,9 @@
 // that no sum of places overflows.
 ghost use Prim.Native.Nat.{_+_, _≤_};
 ghost use lib.ListN.{length};
+use records::octets::least;
+use records::octets::octet_at;
 use text::values::wide;
-use wire::number::least;
-use wire::number::octet_at;
 
 // The number in n of the octets from a place on, which the record has.
 fn whole_number_at(call: &[u8], at: usize, n: usize) -> u64

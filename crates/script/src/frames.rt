@@ -8,9 +8,9 @@ use crate::arguments::u64_at;
 use records::frame::GooseFrame;
 use records::frame::MmsFrame;
 use records::frame::SvFrame;
+use records::octets::octet_at;
 use records::schedule::RetxSchedule;
 use records::service::MmsServiceType;
-use wire::number::octet_at;
 
 // The schedule of the calls 8 and 18: initial and largest interval, tolerance.
 pub fn schedule(call: &[u8]) -> RetxSchedule {

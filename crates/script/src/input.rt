@@ -7,7 +7,7 @@ use crate::line::CALLS_LEN;
 use crate::line::Line;
 use crate::line::read_line;
 use libc::STDIN_FILENO;
-use wire::number::least;
+use records::octets::least;
 
 // Where the next line begins in the buffer, how far it was searched for its line feed, and where the octets that were read end.
 pub struct Input {

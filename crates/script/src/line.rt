@@ -4,10 +4,10 @@ ghost use Prim.Native.Nat.{_≤_};
 ghost use mathlib.Core.Path.{_≡_};
 ghost use lib.ListN.{length};
 use crate::store::store_argument;
+use records::octets::octet_at;
 use text::put::put_octets;
 use text::words::short_word_end;
 use text::words::word_start;
-use wire::number::octet_at;
 
 // What a line is: nothing to answer, a call, whose record ends at a place, or why it is none, with the number of the argument.
 pub enum Line {

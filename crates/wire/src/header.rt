@@ -2,8 +2,8 @@
 // craton-shield a31d888527 (Apache-2.0) and changed: a function over the EtherType.
 ghost use mathlib.Core.Path.{_≡_};
 ghost use Rattle.wire.specs.Header.{appidAt, apduOf, sourceOf, header};
-use crate::number::octet_at;
 use crate::number::pair_at;
+use records::octets::octet_at;
 
 pub const ETHERTYPE_SV: u16 = 0x88ba;
 

@@ -1,20 +1,10 @@
 // Numbers in octets, most significant octet first. Carried over from industrial/iec61850-monitor/src/lib.rs of craton-shield
 // a31d888527 (Apache-2.0) and changed.
 ghost use mathlib.Core.Path.{_≡_};
-ghost use Prim.Native.Nat.{min};
 ghost use lib.ListN.{take};
-ghost use Rattle.records.specs.Octets.{octetAt};
 ghost use Rattle.wire.specs.Number.{bigEndian, pairAt, unsignedInt};
-
-// The octet at a place, 0 past the end.
-pub fn octet_at(bytes: &[u8], i: usize) -> u8
-    ensures { λ r. ⌜ r ≡ octetAt (now (bytes .entry)) i ⌝ }
-{
-    if i < bytes.len() {
-        return bytes[i];
-    }
-    0
-}
+use records::octets::least;
+use records::octets::octet_at;
 
 // The number in two octets. The place is a `u8`, which a header's places fit, so that the next one cannot overflow.
 pub fn pair_at(bytes: &[u8], i: u8) -> u16
@@ -23,13 +13,6 @@ pub fn pair_at(bytes: &[u8], i: u8) -> u16
     let at = i as usize;
     let high = octet_at(bytes, at) as u16;
     high * 256 + (octet_at(bytes, at + 1) as u16)
-}
-
-// The smaller of two numbers.
-pub fn least(a: usize, b: usize) -> usize
-    ensures { λ r. ⌜ r ≡ min a b ⌝ }
-{
-    if a < b { a } else { b }
 }
 
 // The number in up to four octets; what follows them does not count.
