@@ -22,7 +22,7 @@ pub fn least(a: usize, b: usize) -> usize
 }
 
 // Puts the first `n` octets from a place on, where there is room for them.
-fn put_first(buffer: &mut [u8], at: usize, octets: &[u8], n: usize)
+pub fn put_first(buffer: &mut [u8], at: usize, octets: &[u8], n: usize)
     requires { ⌜ (n ≤ length (now octets)) × (at + n ≤ length (now buffer)) ⌝ }
     ensures { λ _. ⌜ now (buffer .exit) ≡ overwritten (now (buffer .entry)) at (octetAt (now (octets .entry))) n ⌝ }
 {

@@ -34,13 +34,13 @@ pub overlaid-name : (old content : List ℕ) → length old ≡ 64 → nameOf (o
 unfolding overlaid
 overlaid-name old content size =
     let n = validLen (length content) in
-    let over = overwritten old 0 (octetAt content) (length content) in
-    let all = length-overwritten old (octetAt content) 0 (length content) in
+    let over = overwritten old 0 (octetAt content) n in
+    let all = length-overwritten old (octetAt content) 0 n in
     let long : length (take (validLen n) over) ≡ n = length-take-le (validLen n) over (omega (arith, all)) ∙ omega arith in
     let short : length (take 64 content) ≡ n = length-take 64 content ∙ omega arith in
     ext-getD 0 (take (validLen n) over) (take 64 content) (long ∙ sym short) (λ k h.
     getD-take (validLen n) over k 0 (omega (arith, long))
-    ∙ rw zero-add at (overwritten-in old 0 (octetAt content) (length content) k (omega (arith, long)) (omega (arith, long)))
+    ∙ rw zero-add at (overwritten-in old 0 (octetAt content) n k (omega (arith, long)) (omega (arith, long)))
     ∙ sym (getD-take 64 content k 0 (omega (arith, long))))
 
 -- a frame's names have 64 octets
@@ -57,7 +57,7 @@ named false old content len h = refl
 
 length-overlaid : (old content : List ℕ) → length old ≡ 64 → length (overlaid old content) ≡ 64
 unfolding overlaid
-length-overlaid old content h = length-overwritten old (octetAt content) 0 (length content) ∙ h
+length-overlaid old content h = length-overwritten old (octetAt content) 0 (validLen (length content)) ∙ h
 
 -- the answer with a count, or without
 abbrev answerOf : Bool → Parsed

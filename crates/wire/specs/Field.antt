@@ -51,7 +51,7 @@ fieldFits tag content =
 
 -- a shorter name leaves the earlier octets behind its end
 unfoldable pub overlaid : List ℕ → List ℕ → List ℕ
-overlaid old content = overwritten old 0 (octetAt content) (length content)
+overlaid old content = overwritten old 0 (octetAt content) (validLen (length content))
 
 -- the value that was read, or the one before
 abbrev pub valueOr : ℕ → Unsigned → ℕ

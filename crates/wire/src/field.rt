@@ -11,7 +11,7 @@ use crate::number::big_endian;
 use crate::number::decode_unsigned_int;
 use crate::number::pair_at;
 use records::frame::SvFrame;
-use records::octets::put_octets;
+use records::octets::put_first;
 
 // Tags of IEC 61850-9-2, 8.5.2, in its order: the PDU, its sequence of ASDUs, an ASDU, and the fields that the frame takes.
 pub const SAV_PDU: u8 = 0x60;
@@ -67,7 +67,7 @@ pub fn name_len(content: &[u8]) -> u8
 pub fn overlay(name: &mut [u8; 64], content: &[u8])
     ensures { λ _. ⌜ now (name .exit) ≡ overlaid (now (name .entry)) (now (content .entry)) ⌝ }
 {
-    put_octets(name, 0, content);
+    put_first(name, 0, content, name_len(content) as usize);
 }
 
 // The seconds that a time of 4 octets or more gives, or those before.
