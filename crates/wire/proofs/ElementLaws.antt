@@ -185,7 +185,9 @@ elements-enough zero (suc m) (o ∷ more) h g = absurd (not-suc-le-zero h)
 elements-enough (suc n) zero [] h g = refl
 elements-enough (suc n) zero (o ∷ more) h g = absurd (not-suc-le-zero g)
 elements-enough (suc n) (suc m) [] h g = refl
-elements-enough (suc n) (suc m) (o ∷ more) h g = go (element (o ∷ more)) refl (λ end l. elements-enough n m (drop end (o ∷ more)) (simp length-drop (omega arith)) (simp length-drop (omega arith)))
+elements-enough (suc n) (suc m) (o ∷ more) h g =
+    go (element (o ∷ more)) refl (λ end l.
+    elements-enough n m (drop end (o ∷ more)) (simp length-drop (omega arith)) (simp length-drop (omega arith)))
   where
     go : (e : Element) → element (o ∷ more) ≡ e → ((end : ℕ) → 2 ≤ end → elementsOf n (drop end (o ∷ more)) ≡ elementsOf m (drop end (o ∷ more)))
         → elementThen (elementsOf n) (o ∷ more) e ≡ elementThen (elementsOf m) (o ∷ more) e
@@ -220,7 +222,9 @@ module _ (octets : List ℕ) where
           (elements-enough (length more) (length (drop end (o ∷ more))) (drop end (o ∷ more)) (simp length-drop (omega arith)) (omega arith)))
 
   -- what a reader yields: the element at the front, then the elements of what is left past it
-  pub reader-yields : 0 < length octets → (e : Element) → e ≡ element octets → {more : List ℕ} → more ≡ afterElement octets e → elements octets ≡ elementThen (λ _. elements more) octets e
+  pub reader-yields :
+      0 < length octets → (e : Element) → e ≡ element octets → {more : List ℕ} → more ≡ afterElement octets e
+      → elements octets ≡ elementThen (λ _. elements more) octets e
   reader-yields h Unreadable q m = elements-unreadable h (sym q)
   reader-yields h (Read tag start len end) q m = elements-read (sym q) ∙ rw m
 

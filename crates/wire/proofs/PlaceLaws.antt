@@ -35,8 +35,8 @@ unfolding overlaid
 overlaid-name old content size =
     let n = validLen (length content) in
     let over = overwritten old 0 (octetAt content) n in
-    let all = length-overwritten old (octetAt content) 0 n in
-    let long : length (take (validLen n) over) ≡ n = length-take-le (validLen n) over (omega (arith, all)) ∙ omega arith in
+    let kept = length-overwritten old (octetAt content) 0 n in
+    let long : length (take (validLen n) over) ≡ n = length-take-le (validLen n) over (omega (arith, kept)) ∙ omega arith in
     let short : length (take 64 content) ≡ n = length-take 64 content ∙ omega arith in
     ext-getD 0 (take (validLen n) over) (take 64 content) (long ∙ sym short) (λ k h.
     getD-take (validLen n) over k 0 (omega (arith, long))
@@ -78,7 +78,9 @@ module _ (f : SvFrame) (s : Sized f) (tag : ℕ) (content : List ℕ) where
   counts false true = refl
   counts false false = refl
 
-  field-read : (counted : Bool) → readingOf (answerOf (counted || eqb tag smpCntTag)) (withField f tag content) ≡ withRead (readingOf (answerOf counted) f) tag content
+  field-read :
+      (counted : Bool)
+      → readingOf (answerOf (counted || eqb tag smpCntTag)) (withField f tag content) ≡ withRead (readingOf (answerOf counted) f) tag content
   unfolding withField withRead
   field-read counted =
       let a = named (eqb tag svidTag) (f .svid) content (f .«svid_len») (s .svid) in

@@ -121,7 +121,9 @@ module _ (apdu : List ℕ) (r : Part) (e : partOf apdu r ≡ opened savPduTag ap
       pub asdu-no-a2 : NoPart r₂ → unread InvalidInput ≡ asduOf apdu
       asdu-no-a2 n = part-none pdu r₂ e₂ (λ s. inside s inA2) refl (any-first seqAsduTag pdu) n ∙ sym asdu-in-pdu
 
-      module _ {at₂ len₂ : ℕ} (k₂ : r₂ ≡ At at₂ len₂) (asdus : List ℕ) (c₂ : asdus ≡ take len₂ (drop at₂ pdu)) (r₃ : Part) (e₃ : partOf asdus r₃ ≡ opened asduTag asdus) where
+      module _
+          {at₂ len₂ : ℕ} (k₂ : r₂ ≡ At at₂ len₂) (asdus : List ℕ) (c₂ : asdus ≡ take len₂ (drop at₂ pdu))
+          (r₃ : Part) (e₃ : partOf asdus r₃ ≡ opened asduTag asdus) where
         asdu-in-a2 : asduOf apdu ≡ inA2 asdus
         asdu-in-a2 = asdu-in-pdu ∙ ap (λ (s : Sought). inside s inA2) (part-found pdu r₂ e₂ k₂) ∙ ap inA2 (sym c₂)
 

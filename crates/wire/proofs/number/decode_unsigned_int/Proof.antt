@@ -17,14 +17,16 @@ big-endian-requires c κs = search needs
 
 returns-3 : tie.Need-returns-3
 returns-3 c =
-    sym (unsigned-above (c .before .before .before .before .before .args .content .now) (omega arith) (omega arith) (c .before .big-endian .ensures) (c .if3 .taken))
+    let a = c .before .before .before .before .before .args in
+    sym (unsigned-above (a .content .now) (omega arith) (omega arith) (c .before .big-endian .ensures) (c .if3 .taken))
 
 cast-t5 : tie.Need-cast-t5
 cast-t5 c = search needs
 
 returns-4 : tie.Need-returns-4
 returns-4 c =
-    sym (unsigned-is (c .before .before .before .before .before .args .content .now) (omega arith) (omega arith) (c .before .big-endian .ensures) (c .if3 .left))
+    let a = c .before .before .before .before .before .args in
+    sym (unsigned-is (a .content .now) (omega arith) (omega arith) (c .before .big-endian .ensures) (c .if3 .left))
 
 pub decode-unsigned-int-spec : {M : Type 1} → statement M
 decode-unsigned-int-spec =

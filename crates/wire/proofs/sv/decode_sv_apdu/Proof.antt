@@ -11,9 +11,10 @@ returns c = c .refused-sv .ensures ∙ frame-none _ _ _ (c .before .before .sv-a
 returns-2 : tie.Need-returns-2
 returns-2 c =
     let d = c .before .before in
+    let a = d .before .before .before .before .sv-asdu in
     c .read-fields .ensures
     ∙ rw (c .before .content .ensures, d .default .ensures)
-    (frame-at _ _ _ (d .before .before .before .before .sv-asdu .result) (d .before .before .before .before .sv-asdu .ensures) (d .before .before .start .given .1))
+    (frame-at _ _ _ (a .result) (a .ensures) (d .before .before .start .given .1))
 
 pub decode-sv-apdu-spec : {M : Type 1} → statement M
 decode-sv-apdu-spec =
