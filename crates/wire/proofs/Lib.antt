@@ -2,6 +2,7 @@ pub mod PartLaws
 pub mod NumberLaws
 pub mod ElementLaws
 pub mod HeaderLaws
+pub mod ReaderWalks
 pub mod SvLaws
 pub mod PlaceLaws
 pub mod PointsHold
