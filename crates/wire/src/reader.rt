@@ -8,7 +8,21 @@ use crate::element::parse_tlv;
 use crate::element::rest;
 
 pub struct ElementReader<'a> {
-    pub unread: &'a [u8],
+    unread: &'a [u8],
+}
+
+// A reader at the front of some octets.
+pub fn reader_of<'a>(bytes: &'a [u8]) -> ElementReader<'a>
+    ensures { λ r. ⌜ r .unread ≡ bytes .entry ⌝ }
+{
+    ElementReader { unread: bytes }
+}
+
+// What is still unread.
+pub fn unread<'a>(r: ElementReader<'a>) -> &'a [u8]
+    ensures { λ s. ⌜ s ≡ r .entry .unread ⌝ }
+{
+    r.unread
 }
 
 // What follows an element at the front of some octets; nothing where it is unreadable.

@@ -21,9 +21,10 @@ use crate::field::with_field;
 use crate::header::Apdu;
 use crate::header::ETHERTYPE_SV;
 use crate::header::ethernet_header;
-use crate::reader::ElementReader;
 use crate::reader::front;
 use crate::reader::past;
+use crate::reader::reader_of;
+use crate::reader::unread;
 use records::error::VsError;
 use records::frame::SvFrame;
 
@@ -145,11 +146,11 @@ fn finished(fields: SvFields) -> ParsedSv
 pub fn read_fields(asdu: &[u8], frame: SvFrame) -> ParsedSv
     ensures { λ r. ⌜ r ≡ fieldsFrom frame false (elements (now (asdu .entry))) ⌝ }
 {
-    let mut reader = ElementReader { unread: asdu };
+    let mut reader = reader_of(asdu);
     let mut fields = no_fields(frame);
-    while goes_on(reader.unread, fields) {
+    while goes_on(unread(reader), fields) {
         let element = front(reader);
-        fields = with_element(reader.unread, element, fields);
+        fields = with_element(unread(reader), element, fields);
         reader = past(reader, element);
     }
     finished(fields)
