@@ -4,10 +4,10 @@ ghost use lib.ListN.{length};
 ghost use Rattle.io.specs.Counts.{Counts};
 use crate::refusal::put_error;
 use records::frame::SvFrame;
+use sv_frame::sv::Parsed;
 use text::put::put_hex;
 use text::put::put_number;
 use text::put::put_octets;
-use wire::sv::Parsed;
 
 // Puts a name's stated length and all its octets.
 fn put_stated(line: &mut [u8], at: usize, len: u8, name: &[u8]) -> usize

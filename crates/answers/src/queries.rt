@@ -13,9 +13,9 @@ use script::arguments::u16_at;
 use script::arguments::u32_at;
 use script::arguments::u64_at;
 use script::frames::schedule;
+use sv_frame::sv::parse_sv;
 use text::put::put_flag;
 use text::put::put_number;
-use wire::sv::parse_sv;
 
 // Puts a service: its number, and whether it writes.
 fn put_service(line: &mut [u8], at: usize, service: MmsServiceType) -> usize

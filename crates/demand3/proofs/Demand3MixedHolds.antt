@@ -3,10 +3,10 @@ use mathlib.Core.List.{List, [], _∷_, _++_, foldl-append, map}
 use mathlib.Core.Path.{_≡_, refl, sym, ap, _∙_}
 use Rattle.records.specs.declared.frame.SvFrame.{SvFrame}
 use Rattle.records.specs.Legal.{LegalSv}
-use Rattle.wire.specs.declared.sv.Parsed.{Parsed}
-use Rattle.wire.specs.declared.sv.Parsed.the-variants.{Frame, Error}
-use Rattle.wire.specs.Sv.{svFrame}
-use Rattle.wire.proofs.SvLegal.{sv-legal}
+use Rattle.sv_frame.specs.declared.sv.Parsed.{Parsed}
+use Rattle.sv_frame.specs.declared.sv.Parsed.the-variants.{Frame, Error}
+use Rattle.sv_frame.specs.Sv.{svFrame}
+use Rattle.sv_frame.proofs.SvLegal.{sv-legal}
 use Rattle.monitor.specs.Monitor.{Monitor}
 use Rattle.inspection.specs.Calls.{configuredMonitor}
 use Rattle.inspection.specs.InspectSv.{rawInspected, inspectRawSv}

@@ -7,9 +7,9 @@ use mathlib.Core.Path.{_≡_}
 use lib.ListN.{length}
 use Rattle.records.specs.declared.frame.SvFrame.{SvFrame}
 use Rattle.records.specs.Legal.{Octets}
-use Rattle.wire.specs.declared.sv.Parsed.{Parsed}
-use Rattle.wire.specs.declared.sv.Parsed.the-variants.{Frame, Error}
-use Rattle.wire.specs.Sv.{svFrame}
+use Rattle.sv_frame.specs.declared.sv.Parsed.{Parsed}
+use Rattle.sv_frame.specs.declared.sv.Parsed.the-variants.{Frame, Error}
+use Rattle.sv_frame.specs.Sv.{svFrame}
 use Rattle.monitor.specs.Monitor.{Monitor}
 use Rattle.inspection.specs.Calls.{Setting, configuredMonitor}
 use Rattle.inspection.specs.InspectSv.{inspectRawSv}

@@ -4,7 +4,7 @@ ghost use mathlib.Core.Path.{_≡_};
 ghost use mathlib.Core.Bool.{true, false};
 ghost use lib.ListN.{length};
 ghost use Rattle.records.specs.Row.{ValuesOr};
-ghost use Rattle.wire.specs.Sv.{parsedRow};
+ghost use Rattle.sv_frame.specs.Sv.{parsedRow};
 ghost use Rattle.checks.specs.GoosePublisher.{goosePublisherCount};
 ghost use Rattle.checks.specs.MmsRule.{mmsRuleCount};
 ghost use Rattle.checks.specs.Rules.{AddNumbers};

@@ -5,7 +5,7 @@ use Rattle.records.specs.declared.alert.CodedAlert.{CodedAlert}
 use Rattle.records.specs.declared.result.InspectResult.{InspectResult}
 use Rattle.records.specs.Alert.{severityNumber, codeNumber}
 use Rattle.records.specs.Verdict.{verdictOf}
-use Rattle.wire.specs.declared.sv.ParsedSv.{ParsedSv}
+use Rattle.sv_frame.specs.declared.sv.ParsedSv.{ParsedSv}
 use Rattle.monitor.specs.Parts.{After}
 use Rattle.inspection.specs.declared.inspect_sv.RawSv.{RawSv}
 use Rattle.host.specs.declared.result.HostAlert.{HostAlert}

@@ -2,7 +2,7 @@
 ghost use mathlib.Core.Path.{_≡_};
 ghost use Rattle.host.specs.Flag.{flagNumber, addedError, parsedError};
 use checks::rules::Added;
-use wire::sv::Parsed;
+use sv_frame::sv::Parsed;
 
 // No error: the errors are 0 to 14.
 pub const NO_ERROR: u8 = 255;

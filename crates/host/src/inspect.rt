@@ -1,7 +1,7 @@
 // The inspections by value as C exports: a frame of numbers, or the octets of an SV frame, and the result in numbers. Each inspects on the monitor that
 // it was handed, which is given back.
 ghost use mathlib.Core.Path.{_≡_};
-ghost use Rattle.wire.specs.Sv.{svFrame};
+ghost use Rattle.sv_frame.specs.Sv.{svFrame};
 ghost use Rattle.monitor.specs.Monitor.{monitorOf};
 ghost use Rattle.inspection.specs.InspectMms.{inspectMms};
 ghost use Rattle.inspection.specs.InspectGoose.{inspectGoose};
@@ -25,7 +25,7 @@ use inspection::inspect_sv::check_sv_on;
 use inspection::inspect_sv::inspect_raw_sv_on;
 use records::alert::SOURCE_IEC61850_SV;
 use records::frame::SvFrame;
-use wire::sv::parse_sv;
+use sv_frame::sv::parse_sv;
 
 // The monitor after an MMS frame, and the result.
 #[no_mangle]

@@ -20,9 +20,9 @@ use Rattle.records.specs.Counter.{saturated}
 use Rattle.records.specs.Octets.{tabulate}
 use Rattle.records.specs.Result.{cleanResult}
 use Rattle.tables.specs.Column.{zeroWords}
-use Rattle.wire.specs.declared.sv.Parsed.{Parsed}
-use Rattle.wire.specs.declared.sv.Parsed.the-variants as parsed
-use Rattle.wire.specs.Sv.{svFrame}
+use Rattle.sv_frame.specs.declared.sv.Parsed.{Parsed}
+use Rattle.sv_frame.specs.declared.sv.Parsed.the-variants as parsed
+use Rattle.sv_frame.specs.Sv.{svFrame}
 use Rattle.monitor.specs.Monitor.{Monitor, Sized}
 use Rattle.monitor.specs.Reset.{newTotals, resetMonitor}
 use Rattle.monitor.specs.Totals.{total, mmsTotalInspected, gooseTotalInspected, svTotalInspected, totalAlerts, frameCounted, withAlerts}

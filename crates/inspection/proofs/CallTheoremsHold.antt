@@ -6,10 +6,10 @@ use native.Mathlib.Omega.{arith}
 use Rattle.records.specs.declared.error.VsError.{VsError}
 use Rattle.records.specs.declared.frame.SvFrame.{SvFrame}
 use Rattle.records.specs.Octets.{tabulate}
-use Rattle.wire.specs.declared.sv.Parsed.{Parsed}
-use Rattle.wire.specs.declared.sv.Parsed.the-variants as parsed
-use Rattle.wire.specs.Sv.{svFrame}
-use Rattle.wire.proofs.RefusalsHold.{sv-answers}
+use Rattle.sv_frame.specs.declared.sv.Parsed.{Parsed}
+use Rattle.sv_frame.specs.declared.sv.Parsed.the-variants as parsed
+use Rattle.sv_frame.specs.Sv.{svFrame}
+use Rattle.sv_frame.proofs.RefusalsHold.{sv-answers}
 use Rattle.tables.specs.Column.{zeroWords}
 use Rattle.checks.proofs.RuleLaws.{add-numbers}
 use Rattle.checks.specs.GoosePublisher.{gooseAdded}

@@ -19,10 +19,10 @@ use Rattle.records.specs.Result.{cleanResult}
 use Rattle.records.specs.Search.{isFound, lastBelow}
 use Rattle.records.specs.Service.{serviceNumber, isWrite}
 use Rattle.records.proofs.Booleans.{and-true, and-false, and-yes, and-no, answered, cond-yes, cond-no}
-use Rattle.wire.specs.declared.sv.Parsed.{Parsed}
-use Rattle.wire.specs.declared.sv.Parsed.the-variants.{Frame, Error}
-use Rattle.wire.specs.declared.sv.ParsedSv.{ParsedSv}
-use Rattle.wire.specs.Sv.{svFrame}
+use Rattle.sv_frame.specs.declared.sv.Parsed.{Parsed}
+use Rattle.sv_frame.specs.declared.sv.Parsed.the-variants.{Frame, Error}
+use Rattle.sv_frame.specs.declared.sv.ParsedSv.{ParsedSv}
+use Rattle.sv_frame.specs.Sv.{svFrame}
 use Rattle.checks.specs.declared.sv_publisher.PublisherMatch.{PublisherMatch}
 use Rattle.checks.specs.declared.sv_publisher.PublisherMatch.the-variants.{NotRegistered}
 use Rattle.checks.specs.declared.sv_seq.SvSeqOutcome.{SvSeqOutcome}

@@ -13,9 +13,9 @@ use Rattle.records.specs.declared.result.InspectResult.{InspectResult}
 use Rattle.records.specs.Alert.{sourceSv}
 use Rattle.records.specs.Result.{cleanResult}
 use Rattle.records.specs.Row.{ValuesOr}
-use Rattle.wire.specs.declared.sv.Parsed.{Parsed}
-use Rattle.wire.specs.declared.sv.Parsed.the-variants as parsed
-use Rattle.wire.specs.Sv.{parsedRow, svFrame}
+use Rattle.sv_frame.specs.declared.sv.Parsed.{Parsed}
+use Rattle.sv_frame.specs.declared.sv.Parsed.the-variants as parsed
+use Rattle.sv_frame.specs.Sv.{parsedRow, svFrame}
 use Rattle.checks.specs.declared.rules.Added.the-variants as added
 use Rattle.checks.specs.Rules.{AddNumbers}
 use Rattle.checks.specs.GoosePublisher.{goosePublisherCount}

@@ -8,9 +8,9 @@ use Rattle.records.specs.declared.result.InspectResult.{InspectResult}
 use Rattle.records.specs.Alert.{sourceSv}
 use Rattle.records.specs.Name.{nameOf}
 use Rattle.records.specs.Result.{cleanResult}
-use Rattle.wire.specs.declared.sv.Parsed.{Parsed}
-use Rattle.wire.specs.declared.sv.Parsed.the-variants.{Frame, Error}
-use Rattle.wire.specs.Sv.{svFrame}
+use Rattle.sv_frame.specs.declared.sv.Parsed.{Parsed}
+use Rattle.sv_frame.specs.declared.sv.Parsed.the-variants.{Frame, Error}
+use Rattle.sv_frame.specs.Sv.{svFrame}
 use Rattle.checks.specs.declared.sv_publisher.PublisherMatch.{PublisherMatch}
 use Rattle.checks.specs.declared.sv_publisher.PublisherMatch.the-variants.{NotRegistered, WrongAddress, Fits}
 use Rattle.checks.specs.declared.sv_seq.SvSeqOutcome.{SvSeqOutcome}

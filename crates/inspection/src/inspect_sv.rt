@@ -37,8 +37,8 @@ use monitor::totals::count_frame_on;
 use records::alert::SOURCE_IEC61850_SV;
 use records::frame::SvFrame;
 use records::result::InspectResult;
-use wire::sv::Parsed;
-use wire::sv::parse_sv;
+use sv_frame::sv::Parsed;
+use sv_frame::sv::parse_sv;
 
 // What the checks read of a frame beside its names.
 pub struct SvNumbers {

@@ -13,19 +13,19 @@ use Rattle.records.specs.Verdict.{verdictOf}
 use Rattle.wire.specs.declared.header.Apdu.{Apdu}
 use Rattle.wire.specs.declared.header.Apdu.the-variants.{At, Refused}
 use Rattle.wire.specs.declared.header.Header.{Header}
-use Rattle.wire.specs.declared.places.SvPlaces.{SvPlaces}
-use Rattle.wire.specs.declared.sv.Parsed.{Parsed}
-use Rattle.wire.specs.declared.sv.Parsed.the-variants.{Frame, Error}
-use Rattle.wire.specs.declared.sv.ParsedSv.{ParsedSv}
+use Rattle.sv_frame.specs.declared.places.SvPlaces.{SvPlaces}
+use Rattle.sv_frame.specs.declared.sv.Parsed.{Parsed}
+use Rattle.sv_frame.specs.declared.sv.Parsed.the-variants.{Frame, Error}
+use Rattle.sv_frame.specs.declared.sv.ParsedSv.{ParsedSv}
 use Rattle.wire.specs.declared.element.Part.{Part}
 use Rattle.wire.specs.declared.element.Part.the-variants as part
 use Rattle.wire.specs.Element.{elements, partOf}
-use Rattle.wire.specs.Field.{overlaid}
+use Rattle.sv_frame.specs.Field.{overlaid}
 use Rattle.wire.specs.Header.{header}
-use Rattle.wire.specs.Places.{SvReading, readingAt, answered, placedReading, parsedReading}
-use Rattle.wire.specs.Sv.{refusedSv, fieldsFrom, emptyFrame, asduOf, apduFrame, apduAt, headedFrame, svFrame}
-use Rattle.wire.proofs.PlaceLaws.{overlaid-name, read-frame, read-error}
-use Rattle.wire.proofs.SvLaws.{NoPart, frame-none, frame-at}
+use Rattle.sv_frame.specs.Places.{SvReading, readingAt, answered, placedReading, parsedReading}
+use Rattle.sv_frame.specs.Sv.{refusedSv, fieldsFrom, emptyFrame, asduOf, apduFrame, apduAt, headedFrame, svFrame}
+use Rattle.sv_frame.proofs.PlaceLaws.{overlaid-name, read-frame, read-error}
+use Rattle.sv_frame.proofs.SvLaws.{NoPart, frame-none, frame-at}
 use Rattle.checks.specs.Keys.{plainKey}
 use Rattle.monitor.specs.Monitor.{Monitor}
 use Rattle.monitor.specs.Parts.{After}

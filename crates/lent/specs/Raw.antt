@@ -2,9 +2,9 @@
 use Prim.Native.Nat.{ℕ}
 use mathlib.Core.List.{[], _∷_}
 use Rattle.records.specs.Verdict.{verdictOf}
-use Rattle.wire.specs.declared.sv.Parsed.{Parsed}
-use Rattle.wire.specs.declared.sv.ParsedSv.{ParsedSv}
-use Rattle.wire.specs.Places.{SvReading}
+use Rattle.sv_frame.specs.declared.sv.Parsed.{Parsed}
+use Rattle.sv_frame.specs.declared.sv.ParsedSv.{ParsedSv}
+use Rattle.sv_frame.specs.Places.{SvReading}
 use Rattle.checks.specs.Keys.{plainKey}
 use Rattle.monitor.specs.Monitor.{Monitor}
 use Rattle.monitor.specs.Parts.{After}

@@ -1,8 +1,8 @@
 // A raw SV frame, read where it stands.
 ghost use Prim.Native.Nat.{ℕ};
 ghost use mathlib.Core.Path.{_≡_};
-ghost use Rattle.wire.specs.Places.{readingAt};
-ghost use Rattle.wire.specs.Sv.{apduFrame};
+ghost use Rattle.sv_frame.specs.Places.{readingAt};
+ghost use Rattle.sv_frame.specs.Sv.{apduFrame};
 ghost use Rattle.monitor.specs.Monitor.{monitorOf};
 ghost use Rattle.inspection.specs.InspectSv.{inspectRawSv};
 ghost use Rattle.inspection.specs.Report.{alertsOf};
@@ -17,17 +17,17 @@ use monitor::parts::WORDS;
 use monitor::totals::SV_TOTAL_INSPECTED;
 use monitor::totals::count_frame_on;
 use records::error::VsError;
+use sv_frame::field::name_len;
+use sv_frame::places::SvPlaces;
+use sv_frame::places::name_octets;
+use sv_frame::places::sv_places;
+use sv_frame::sv::Parsed;
+use sv_frame::sv::sv_asdu;
 use wire::element::Part;
 use wire::element::content;
-use wire::field::name_len;
 use wire::header::Apdu;
 use wire::header::ETHERTYPE_SV;
 use wire::header::ethernet_header;
-use wire::places::SvPlaces;
-use wire::places::name_octets;
-use wire::places::sv_places;
-use wire::sv::Parsed;
-use wire::sv::sv_asdu;
 
 // The verdict on a raw frame, with the error where it could not be read.
 pub struct RawVerdict {

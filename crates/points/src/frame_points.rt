@@ -4,9 +4,9 @@ use crate::write_octets;
 use libc::STDOUT_FILENO;
 use records::frame::SvFrame;
 use records::octets::put_octets;
+use sv_frame::sv::Parsed;
+use sv_frame::sv::parse_sv;
 use wire::element::content;
-use wire::sv::Parsed;
-use wire::sv::parse_sv;
 
 // Document 01's frame: svID M1, count 500.
 pub fn good_frame() -> [u8; 39] {

@@ -14,7 +14,7 @@ use records::frame::MmsFrame;
 use records::frame::SvFrame;
 use records::result::InspectResult;
 use records::service::MmsServiceType;
-use wire::sv::Parsed;
+use sv_frame::sv::Parsed;
 
 // A label and a number, within a line.
 fn write_part(label: &[u8], n: u64) {

@@ -3,9 +3,6 @@ pub mod NumberLaws
 pub mod ElementLaws
 pub mod HeaderLaws
 pub mod ReaderWalks
-pub mod SvLaws
-pub mod PlaceLaws
 pub mod PointsHold
-pub mod SvLegal
 pub mod RowLaws
 pub mod RefusalsHold

@@ -13,12 +13,9 @@ use Rattle.wire.specs.declared.header.Apdu.{Apdu}
 use Rattle.wire.specs.declared.header.Apdu.the-variants as apdu
 use Rattle.wire.specs.declared.number.Unsigned.{Unsigned}
 use Rattle.wire.specs.declared.number.Unsigned.the-variants as unsigned
-use Rattle.wire.specs.declared.sv.Parsed.{Parsed}
-use Rattle.wire.specs.declared.sv.Parsed.the-variants.{Frame, Error}
 use Rattle.wire.specs.Element.{lengthRow, headRow, elementRow, partRow}
 use Rattle.wire.specs.Header.{apduRow}
 use Rattle.wire.specs.Number.{unsignedRow}
-use Rattle.wire.specs.Sv.{parsedRow}
 
 pub length-row-injective : (a b : Length) → lengthRow a ≡ lengthRow b → a ≡ b
 length-row-injective (length.Definite o v) (length.Definite p w) e = cc
@@ -60,9 +57,3 @@ apdu-row-injective (apdu.At s n) (apdu.At r k) e = cc
 apdu-row-injective (apdu.At s n) apdu.Refused e = cc
 apdu-row-injective apdu.Refused (apdu.At r k) e = cc
 apdu-row-injective apdu.Refused apdu.Refused e = refl
-
-pub parsed-row-injective : (a b : Parsed) → parsedRow a ≡ parsedRow b → a ≡ b
-parsed-row-injective Frame Frame e = refl
-parsed-row-injective Frame (Error y) e = cc
-parsed-row-injective (Error x) Frame e = cc
-parsed-row-injective (Error x) (Error y) e = ap Error (error-row-injective x y e)

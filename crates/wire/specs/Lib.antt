@@ -2,8 +2,5 @@ pub mod Number
 pub mod Element
 pub mod Reader
 pub mod Header
-pub mod Field
-pub mod Sv
-pub mod Places
 pub mod Refusals
 pub mod Points

@@ -3,7 +3,6 @@ use mathlib.Core.List.{List, [], _∷_, _++_}
 use Prim.Native.Nat.{ℕ}
 use Rattle.records.specs.Points.{Point}
 use Rattle.wire.specs.Element.{elementRow, element, Sought, found, missing, unread, contentOf}
-use Rattle.wire.specs.Sv.{parsedRow, svFrame}
 
 -- the octets of a part that was found
 abbrev pub foundOctets : Sought → List ℕ
@@ -16,11 +15,10 @@ abbrev pub elementPoint : List ℕ → List ℕ → Point
 elementPoint octets expected =
     record { computed = elementRow (element octets) ++ foundOctets (contentOf octets (element octets)); expected = expected }
 
--- the starred points of this crate, and that an unreadable frame is error 9
+-- the starred points of this crate
 abbrev pub wirePoints : List Point
 wirePoints =
     elementPoint (0x82 ∷ 0x84 ∷ 0x00 ∷ 0x00 ∷ 0x00 ∷ 0x02 ∷ 0x01 ∷ 0xF4 ∷ []) (1 ∷ 0x82 ∷ 6 ∷ 2 ∷ 8 ∷ 0x01 ∷ 0xF4 ∷ [])
     ∷ elementPoint (0x80 ∷ 0x80 ∷ []) (0 ∷ 9 ∷ [])
     ∷ elementPoint (0x82 ∷ 0x83 ∷ 0x01 ∷ 0x00 ∷ 0x00 ∷ []) (0 ∷ 9 ∷ [])
-    ∷ record { computed = parsedRow (svFrame [] 0 .answer); expected = 0 ∷ 9 ∷ [] }
     ∷ []

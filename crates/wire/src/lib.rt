@@ -1,8 +1,5 @@
-// Reading frames: X.690 elements, the Ethernet header, and the sampled-values frame.
+// What frame formats share: numbers in octets, X.690 elements, and the Ethernet header.
 pub mod element;
-pub mod field;
 pub mod header;
 pub mod number;
-pub mod places;
 pub mod reader;
-pub mod sv;

@@ -1,7 +1,7 @@
 -- `check_places` meets its contract.
 use mathlib.Core.Path.{ap, _∙_}
 use borrow.Author.Needs.{needs}
-use Rattle.wire.specs.Places.{readingAt}
+use Rattle.sv_frame.specs.Places.{readingAt}
 use Rattle.checks.specs.Keys.{plainKey}
 use Rattle.monitor.specs.Monitor.{monitorOf}
 use Rattle.lent.proofs.RawLaws.{name-read, checked-reading}

@@ -1,7 +1,7 @@
 -- `inspect_raw_sv` meets its contract.
 use borrow.Author.Needs.{needs}
 use Rattle.records.specs.Row.{ValuesOr}
-use Rattle.wire.specs.Sv.{parsedRow}
+use Rattle.sv_frame.specs.Sv.{parsedRow}
 use Rattle.inspection.specs.declared.inspect_sv.RawSv.{RawSv}
 use Rattle.inspection.proofs.CallTheoremsHold.{answer-has, raw-refusals}
 use Rattle.entries.proofs.iec61850_monitor.Iec61850Monitor.inspect_raw_sv.Statement.{statement}

@@ -1,0 +1,4 @@
+pub mod Field
+pub mod Sv
+pub mod Places
+pub mod Refusals

@@ -1,0 +1,4 @@
+// The sampled-values frame: its fields, read into a frame, or by positions.
+pub mod field;
+pub mod places;
+pub mod sv;
