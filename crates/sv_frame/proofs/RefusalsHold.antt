@@ -14,7 +14,7 @@ use Rattle.records.specs.Row.{ValuesOr}
 use Rattle.wire.specs.declared.header.Apdu.{Apdu}
 use Rattle.wire.specs.declared.header.Apdu.the-variants as apdu
 use Rattle.sv_frame.specs.declared.sv.ParsedSv.{ParsedSv}
-use Rattle.wire.specs.Element.{Elements, ended, failed, next, elements, Sought, found, missing, unread, firstContent, opened}
+use Rattle.wire.specs.Element.{Elements, ended, failed, next, elements, Sought, found, missing, error, firstContent, opened}
 use Rattle.sv_frame.specs.Field.{savPduTag, seqAsduTag, asduTag, smpCntTag, fieldFits, withField}
 use Rattle.wire.specs.Header.{header}
 use Rattle.sv_frame.specs.Refusals.{FrameOr9, SvRefusals}
@@ -37,17 +37,17 @@ module _ (f : SvFrame) where
   asdu-read : (s : Sought) → FoundOr Any s → FrameOr9 (asduFrame f s)
   asdu-read (found asdu) o = fields-read f false (elements asdu) (any-elements asdu)
   asdu-read missing o = refused refl
-  asdu-read (unread e) o = refused o
+  asdu-read (error e) o = refused o
 
   seq-read : (s : Sought) → FoundOr Any s → FrameOr9 (seqAsduFrame f s)
   seq-read (found asdus) o = asdu-read (opened asduTag asdus) (any-opened asduTag asdus)
   seq-read missing o = refused refl
-  seq-read (unread e) o = refused o
+  seq-read (error e) o = refused o
 
   pdu-read : (s : Sought) → FoundOr Any s → FrameOr9 (savPduFrame f s)
   pdu-read (found pdu) o = seq-read (firstContent seqAsduTag (elements pdu)) (any-first seqAsduTag pdu)
   pdu-read missing o = refused refl
-  pdu-read (unread e) o = refused o
+  pdu-read (error e) o = refused o
 
 apdu-read : (octets source : List ℕ) (time : ℕ) → FrameOr9 (apduFrame octets source time)
 unfolding apduFrame

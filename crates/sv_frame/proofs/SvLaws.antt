@@ -18,7 +18,7 @@ use Rattle.sv_frame.specs.declared.sv.Parsed.{Parsed}
 use Rattle.sv_frame.specs.declared.sv.Parsed.the-variants.{Frame, Error}
 use Rattle.sv_frame.specs.declared.sv.SvFields.{SvFields}
 use Rattle.wire.specs.Element.{Elements, failed, element, elements, ended, elementThen}
-use Rattle.wire.specs.Element.{Sought, found, missing, unread, firstContent, opened, partOf, Within}
+use Rattle.wire.specs.Element.{Sought, found, missing, error, firstContent, opened, partOf, PartWithin}
 use Rattle.sv_frame.specs.Field.{savPduTag, seqAsduTag, asduTag, smpCntTag, fieldFits, withField}
 use Rattle.wire.specs.Reader.{afterElement}
 use Rattle.sv_frame.specs.Sv.{readSv, refusedSv, fieldsFrom, asduFrame, seqAsduFrame, savPduFrame, emptyFrame, apduFrame}
@@ -40,14 +40,14 @@ frame-of-asdu apdu source time = outer (opened savPduTag apdu)
     inner : (s : Sought) → asduFrame (emptyFrame source time) s ≡ asduFrame (emptyFrame source time) (inside s found)
     inner (found asdu) = refl
     inner missing = refl
-    inner (unread e) = refl
+    inner (error e) = refl
 
     middle : (s : Sought)
         → seqAsduFrame (emptyFrame source time) s
         ≡ asduFrame (emptyFrame source time) (inside s (λ asdus. inside (opened asduTag asdus) found))
     middle (found asdus) = inner (opened asduTag asdus)
     middle missing = refl
-    middle (unread e) = refl
+    middle (error e) = refl
 
     outer : (s : Sought)
         → savPduFrame (emptyFrame source time) s
@@ -55,7 +55,7 @@ frame-of-asdu apdu source time = outer (opened savPduTag apdu)
         (inside s (λ pdu. inside (firstContent seqAsduTag (elements pdu)) (λ asdus. inside (opened asduTag asdus) found)))
     outer (found pdu) = middle (firstContent seqAsduTag (elements pdu))
     outer missing = refl
-    outer (unread e) = refl
+    outer (error e) = refl
 
 -- an answer that is no part is either of two
 abbrev pub NoPart : Part → Type 0
@@ -67,18 +67,18 @@ module _ (octets : List ℕ) (r : Part) {s : Sought} (e : partOf octets r ≡ s)
   part-found q = sym e ∙ ap (partOf octets) q
 
   -- one that is not found is the error, for any use of it
-  part-none : {T : Type 0} (then : Sought → T) → then missing ≡ then (unread InvalidInput) → FoundOr Any s → NoPart r → then (unread InvalidInput) ≡ then s
+  part-none : {T : Type 0} (then : Sought → T) → then missing ≡ then (error InvalidInput) → FoundOr Any s → NoPart r → then (error InvalidInput) ≡ then s
   part-none then m f n = go r s n e f
     where
-      go : (r : Part) (s : Sought) → NoPart r → partOf octets r ≡ s → FoundOr Any s → then (unread InvalidInput) ≡ then s
+      go : (r : Part) (s : Sought) → NoPart r → partOf octets r ≡ s → FoundOr Any s → then (error InvalidInput) ≡ then s
       go r missing n e f = sym m
-      go r (unread x) n e f = ap (λ x. then (unread x)) (sym f)
+      go r (error x) n e f = ap (λ x. then (error x)) (sym f)
       go (At start len) (found l) n e f = ⊎-elim (λ z. absurd (omega arith)) (λ z. absurd (omega arith)) n
       go Missing (found l) n e f = let z : _≡_ {A = ℕ} 0 1 = cc in absurd (omega arith)
       go (Failed x) (found l) n e f = let z : _≡_ {A = ℕ} 0 1 = cc in absurd (omega arith)
 
 -- within so many octets
-pub part-within : {total : ℕ} (r : Part) → Within total r → {start len : ℕ} → r ≡ At start len → start + len ≤ total
+pub part-within : {total : ℕ} (r : Part) → PartWithin total r → {start len : ℕ} → r ≡ At start len → start + len ≤ total
 part-within r w q = rw q at w
 
 -- the ASDU, by the answers to the three searches
@@ -95,20 +95,20 @@ any-asdu apdu = outer (opened savPduTag apdu) (any-opened savPduTag apdu)
     inner : (s : Sought) → FoundOr Any s → FoundOr Any (inside s found)
     inner (found l) f = tt
     inner missing f = refl
-    inner (unread x) f = f
+    inner (error x) f = f
 
     middle : (s : Sought) → FoundOr Any s → FoundOr Any (inside s inA2)
     middle (found l) f = inner (opened asduTag l) (any-opened asduTag l)
     middle missing f = refl
-    middle (unread x) f = f
+    middle (error x) f = f
 
     outer : (s : Sought) → FoundOr Any s → FoundOr Any (inside s inPdu)
     outer (found l) f = middle (firstContent seqAsduTag (elements l)) (any-first seqAsduTag l)
     outer missing f = refl
-    outer (unread x) f = f
+    outer (error x) f = f
 
 module _ (apdu : List ℕ) (r : Part) (e : partOf apdu r ≡ opened savPduTag apdu) where
-  pub asdu-unopened : NoPart r → unread InvalidInput ≡ asduOf apdu
+  pub asdu-unopened : NoPart r → error InvalidInput ≡ asduOf apdu
   unfolding asduOf
   asdu-unopened n = part-none apdu r e (λ s. inside s inPdu) refl (any-opened savPduTag apdu) n
 
@@ -118,7 +118,7 @@ module _ (apdu : List ℕ) (r : Part) (e : partOf apdu r ≡ opened savPduTag ap
     asdu-in-pdu = ap (λ (s : Sought). inside s inPdu) (part-found apdu r e k) ∙ ap inPdu (sym c)
 
     module _ (r₂ : Part) (e₂ : partOf pdu r₂ ≡ firstContent seqAsduTag (elements pdu)) where
-      pub asdu-no-a2 : NoPart r₂ → unread InvalidInput ≡ asduOf apdu
+      pub asdu-no-a2 : NoPart r₂ → error InvalidInput ≡ asduOf apdu
       asdu-no-a2 n = part-none pdu r₂ e₂ (λ s. inside s inA2) refl (any-first seqAsduTag pdu) n ∙ sym asdu-in-pdu
 
       module _
@@ -127,12 +127,12 @@ module _ (apdu : List ℕ) (r : Part) (e : partOf apdu r ≡ opened savPduTag ap
         asdu-in-a2 : asduOf apdu ≡ inA2 asdus
         asdu-in-a2 = asdu-in-pdu ∙ ap (λ (s : Sought). inside s inA2) (part-found pdu r₂ e₂ k₂) ∙ ap inA2 (sym c₂)
 
-        pub asdu-unread : NoPart r₃ → unread InvalidInput ≡ asduOf apdu
+        pub asdu-unread : NoPart r₃ → error InvalidInput ≡ asduOf apdu
         asdu-unread n = part-none asdus r₃ e₃ (λ s. inside s found) refl (any-opened asduTag asdus) n ∙ sym asdu-in-a2
 
-        module _ {at₃ len₃ : ℕ} (k₃ : r₃ ≡ At at₃ len₃) (w₂ : Within (length pdu) r₂) (w₃ : Within (length asdus) r₃) where
+        module _ {at₃ len₃ : ℕ} (k₃ : r₃ ≡ At at₃ len₃) (w₂ : PartWithin (length pdu) r₂) (w₃ : PartWithin (length asdus) r₃) where
           -- the inner parts are within the outer ones
-          pub asdu-within : Within (length apdu) r → at + at₂ + at₃ + len₃ ≤ length apdu
+          pub asdu-within : PartWithin (length apdu) r → at + at₂ + at₃ + len₃ ≤ length apdu
           asdu-within w =
               let a = part-within r w k in
               let b = part-within r₂ w₂ k₂ in

@@ -18,7 +18,7 @@ use Rattle.wire.specs.declared.header.Apdu.{Apdu}
 use Rattle.wire.specs.declared.header.Apdu.the-variants.{At, Refused}
 use Rattle.wire.specs.declared.number.Unsigned.the-variants as unsigned
 use Rattle.sv_frame.specs.declared.sv.ParsedSv.{ParsedSv}
-use Rattle.wire.specs.Element.{Elements, ended, failed, next, Sought, found, missing, unread, elements, firstContent, opened}
+use Rattle.wire.specs.Element.{Elements, ended, failed, next, Sought, found, missing, error, elements, firstContent, opened}
 use Rattle.sv_frame.specs.Field.{savPduTag, seqAsduTag, asduTag, svidTag, datSetTag, smpCntTag, refrTmTag, smpRateTag}
 use Rattle.sv_frame.specs.Field.{valueOr, overlaid, withField, fieldFits}
 use Rattle.wire.specs.Header.{apduOf, sourceOf, withSource, header}
@@ -103,17 +103,17 @@ module _ (f : SvFrame) (l : LegalSv f) where
   asdu-legal : (s : Sought) → FoundOr Octets s → LegalSv (asduFrame f s .frame)
   asdu-legal (found asdu) o = fields-legal f false (elements asdu) l (all-elements Octets part-octets octets-drop asdu o)
   asdu-legal missing o = refused-legal InvalidInput
-  asdu-legal (unread e) o = refused-legal e
+  asdu-legal (error e) o = refused-legal e
 
   seq-legal : (s : Sought) → FoundOr Octets s → LegalSv (seqAsduFrame f s .frame)
   seq-legal (found asdus) o = asdu-legal (opened asduTag asdus) (opened-has Octets part-octets octets-drop asduTag asdus o)
   seq-legal missing o = refused-legal InvalidInput
-  seq-legal (unread e) o = refused-legal e
+  seq-legal (error e) o = refused-legal e
 
   pdu-legal : (s : Sought) → FoundOr Octets s → LegalSv (savPduFrame f s .frame)
   pdu-legal (found pdu) o = seq-legal (firstContent seqAsduTag (elements pdu)) (first-has Octets part-octets octets-drop seqAsduTag pdu o)
   pdu-legal missing o = refused-legal InvalidInput
-  pdu-legal (unread e) o = refused-legal e
+  pdu-legal (error e) o = refused-legal e
 
 apdu-legal :
     (apdu : List ℕ) {source : List ℕ} {time : ℕ} → Octets apdu → OctetArray 6 source → time < 2 ^ 64 → LegalSv (apduFrame apdu source time .frame)

@@ -18,7 +18,7 @@ use Rattle.sv_frame.specs.declared.sv.Parsed.{Parsed}
 use Rattle.sv_frame.specs.declared.sv.Parsed.the-variants.{Frame, Error}
 use Rattle.sv_frame.specs.declared.sv.ParsedSv.{ParsedSv}
 use Rattle.sv_frame.specs.declared.sv.SvFields.{SvFields}
-use Rattle.wire.specs.Element.{Elements, ended, failed, next, elements, Sought, found, missing, unread, firstContent, opened}
+use Rattle.wire.specs.Element.{Elements, ended, failed, next, elements, Sought, found, missing, error, firstContent, opened}
 use Rattle.sv_frame.specs.Field.{savPduTag, seqAsduTag, asduTag, smpCntTag, fieldFits, withField}
 use Rattle.wire.specs.Header.{header}
 
@@ -37,37 +37,37 @@ refusedSv e = record { answer = Error e; frame = defaultSv }
 
 -- the fields of an ASDU in their order, from a frame on: of a repeated tag the last wins
 unfoldable pub fieldsFrom : SvFrame → Bool → Elements → ParsedSv
--- without 82
+-- refused: no 82
 fieldsFrom f counted ended = cond counted (readSv f) (refusedSv InvalidInput)
--- an unreadable element
+-- refused: an unreadable element
 fieldsFrom f counted (failed e) = refusedSv e
--- a field of a wrong length, or a rate above 65535
+-- refused: a field of a wrong length, or a rate above 65535
 fieldsFrom f counted (next tag content rest) =
     cond (fieldFits tag content) (fieldsFrom (withField f tag content) (counted || eqb tag smpCntTag) rest) (refusedSv InvalidInput)
 
 -- inside the A2 an initial 30 is opened
 abbrev pub asduFrame : SvFrame → Sought → ParsedSv
 asduFrame f (found asdu) = fieldsFrom f false (elements asdu)
--- an empty A2
+-- refused: an empty A2
 asduFrame f missing = refusedSv InvalidInput
--- an unreadable 30
-asduFrame f (unread e) = refusedSv e
+-- refused: an unreadable 30
+asduFrame f (error e) = refusedSv e
 
 -- the first A2 is sought, and nothing after it is read
 abbrev pub seqAsduFrame : SvFrame → Sought → ParsedSv
 seqAsduFrame f (found asdus) = asduFrame f (opened asduTag asdus)
--- a missing A2
+-- refused: a missing A2
 seqAsduFrame f missing = refusedSv InvalidInput
--- an unreadable element before it
-seqAsduFrame f (unread e) = refusedSv e
+-- refused: an unreadable element before it
+seqAsduFrame f (error e) = refusedSv e
 
 -- an outer 60 is opened
 abbrev pub savPduFrame : SvFrame → Sought → ParsedSv
 savPduFrame f (found pdu) = seqAsduFrame f (firstContent seqAsduTag (elements pdu))
--- an empty APDU
+-- refused: an empty APDU
 savPduFrame f missing = refusedSv InvalidInput
--- an unreadable 60
-savPduFrame f (unread e) = refusedSv e
+-- refused: an unreadable 60
+savPduFrame f (error e) = refusedSv e
 
 -- the default frame, with its source and its time
 abbrev pub emptyFrame : List ℕ → ℕ → SvFrame
@@ -92,9 +92,10 @@ apduFrame apdu source time = savPduFrame (emptyFrame source time) (opened savPdu
 -- the frame of the APDU that the header tells of
 abbrev pub apduAt : List ℕ → ℕ → List ℕ → Apdu → ParsedSv
 apduAt octets time source (At start end) = apduFrame (take (end - start) (drop start octets)) source time
--- a refused header
+-- refused: its header
 apduAt octets time source Refused = refusedSv InvalidInput
 
+-- the same, of source and APDU in the header
 abbrev pub headedFrame : List ℕ → ℕ → Header → ParsedSv
 headedFrame octets time h = apduAt octets time (h .«src_mac») (h .apdu)
 
@@ -107,8 +108,8 @@ svFrame octets time = headedFrame octets time (header 0x88BA octets)
 -- what is sought inside another part; what is missing is InvalidInput
 abbrev pub inside : Sought → (List ℕ → Sought) → Sought
 inside (found octets) seek = seek octets
-inside missing seek = unread InvalidInput
-inside (unread e) seek = unread e
+inside missing seek = error InvalidInput
+inside (error e) seek = error e
 
 -- the first ASDU of an APDU
 unfoldable pub asduOf : List ℕ → Sought

@@ -23,7 +23,7 @@ use Rattle.records.specs.declared.error.VsError.{VsError}
 use Rattle.records.specs.declared.error.VsError.the-variants.{InvalidInput}
 use Rattle.wire.specs.Element.{limited, longForm, lengthOf, headWith, headOf, within, headed, element}
 use Rattle.wire.specs.Element.{Elements, ended, failed, next, elementThen, elementsOf, elements}
-use Rattle.wire.specs.Element.{Sought, found, missing, unread, firstContent, contentOf, opened}
+use Rattle.wire.specs.Element.{Sought, found, missing, error, firstContent, contentOf, opened}
 use Rattle.wire.specs.Reader.{afterElement}
 
 module _ (tag start len total : ℕ) where
@@ -250,7 +250,7 @@ module _ (tag : ℕ) {es : Elements} where
   unfolding firstContent
   first-none e = rw e
 
-  pub first-failed : {x : VsError} → es ≡ failed x → firstContent tag es ≡ unread x
+  pub first-failed : {x : VsError} → es ≡ failed x → firstContent tag es ≡ error x
   unfolding firstContent
   first-failed e = rw e
 
@@ -290,7 +290,7 @@ Contents P (next tag content rest) = P content × Contents P rest
 abbrev pub FoundOr : (List ℕ → Type 0) → Sought → Type 0
 FoundOr P (found octets) = P octets
 FoundOr P missing = Unit
-FoundOr P (unread e) = e ≡ InvalidInput
+FoundOr P (error e) = e ≡ InvalidInput
 
 -- of any octets
 abbrev pub Any : List ℕ → Type 0

@@ -107,18 +107,18 @@ elements octets = elementsOf (length octets) octets
 pub data Sought : Type 0 where
   found : List ℕ → Sought
   missing : Sought
-  unread : VsError → Sought
+  error : VsError → Sought
 
 -- the content of the first element with this tag, nothing after it being read
 unfoldable pub firstContent : ℕ → Elements → Sought
 firstContent tag ended = missing
-firstContent tag (failed e) = unread e
+firstContent tag (failed e) = error e
 firstContent tag (next other content rest) = cond (eqb other tag) (found content) (firstContent tag rest)
 
 -- the content of an element; of an unreadable one, the error
 abbrev pub contentOf : List ℕ → Element → Sought
 contentOf octets (Read tag start len end) = found (take len (drop start octets))
-contentOf octets Unreadable = unread InvalidInput
+contentOf octets Unreadable = error InvalidInput
 
 -- an element with this tag at the front is opened: its content; other octets are left as they are, and where there are none, nothing is there
 unfoldable pub opened : ℕ → List ℕ → Sought
@@ -129,10 +129,10 @@ opened tag (first ∷ more) = cond (eqb first tag) (contentOf (first ∷ more) (
 abbrev pub partOf : List ℕ → Part → Sought
 partOf octets (At start len) = found (take len (drop start octets))
 partOf octets Missing = missing
-partOf octets (Error e) = unread e
+partOf octets (Error e) = error e
 
 -- an answer's part is within so many octets
-abbrev pub Within : ℕ → Part → Type 0
-Within total (At start len) = start + len ≤ total
-Within total Missing = Unit
-Within total (Error e) = Unit
+abbrev pub PartWithin : ℕ → Part → Type 0
+PartWithin total (At start len) = start + len ≤ total
+PartWithin total Missing = Unit
+PartWithin total (Error e) = Unit

@@ -2,13 +2,13 @@
 use mathlib.Core.List.{List, [], _∷_, _++_}
 use Prim.Native.Nat.{ℕ}
 use Rattle.records.specs.Points.{Point}
-use Rattle.wire.specs.Element.{elementRow, element, Sought, found, missing, unread, contentOf}
+use Rattle.wire.specs.Element.{elementRow, element, Sought, found, missing, error, contentOf}
 
 -- the octets of a part that was found
 abbrev pub foundOctets : Sought → List ℕ
 foundOctets (found octets) = octets
 foundOctets missing = []
-foundOctets (unread e) = []
+foundOctets (error e) = []
 
 -- an element as a row, and its content
 abbrev pub elementPoint : List ℕ → List ℕ → Point
