@@ -81,7 +81,8 @@ module _ (m : Monitor) (p : ParsedSv) where
 
 -- an APDU without an ASDU
 pub asdu-refused :
-    (m : Monitor) (apdu source : List ℕ) (time : ℕ) (r : Part) → partOf apdu r ≡ asduOf apdu → NoPart r → {v : RawVerdict} → v ≡ refusedVerdict (Error InvalidInput)
+    (m : Monitor) (apdu source : List ℕ) (time : ℕ) (r : Part) → partOf apdu r ≡ asduOf apdu → NoPart r
+    → {v : RawVerdict} → v ≡ refusedVerdict (Error InvalidInput)
     → record { monitor = m; answer = v } ≡ withRawVerdict (parsedInspected m (apduFrame apdu source time))
 unfolding refusedSv
 asdu-refused m apdu source time r e n v =
