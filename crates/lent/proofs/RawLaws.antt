@@ -23,7 +23,7 @@ use Rattle.wire.specs.Element.{elements, partOf}
 use Rattle.sv_frame.specs.Field.{overlaid}
 use Rattle.wire.specs.Header.{header}
 use Rattle.sv_frame.specs.Places.{SvReading, readingAt, answered, placedReading, parsedReading}
-use Rattle.sv_frame.specs.Sv.{refusedSv, fieldsFrom, emptyFrame, asduOf, apduFrame, apduAt, headedFrame, svFrame}
+use Rattle.sv_frame.specs.Sv.{refusedSv, fieldsFrom, emptyFrame, asduOf, apduFrame, apduAt, headerFrame, svFrame}
 use Rattle.sv_frame.proofs.PlaceLaws.{overlaid-name, read-frame, read-error}
 use Rattle.sv_frame.proofs.SvLaws.{NoPart, frame-none, frame-at}
 use Rattle.checks.specs.Keys.{plainKey}
@@ -124,7 +124,7 @@ module _
 module _ (m : Monitor) (octets : List ℕ) (time : ℕ) {found : Header} (e : found ≡ header 0x88BA octets) {a : Apdu} (h : found .apdu ≡ a) where
   by-header : apduAt octets time (found .«src_mac») a ≡ svFrame octets time
   unfolding svFrame
-  by-header = ap (apduAt octets time (found .«src_mac»)) (sym h) ∙ ap (headedFrame octets time) e
+  by-header = ap (apduAt octets time (found .«src_mac»)) (sym h) ∙ ap (headerFrame octets time) e
 
   header-inspected :
       withRawVerdict (parsedInspected m (apduAt octets time (found .«src_mac») a)) ≡ withRawVerdict (inspectRawSv m octets time)

@@ -1,4 +1,4 @@
--- Laws of a frame that is read by positions: what the checks read of it is what they read of the frame that is built.
+-- Laws of a frame that is read by places: what the checks read of it is what they read of the frame that is built.
 use mathlib.Core.Path.{_≡_, refl, sym, _∙_, ap}
 use mathlib.Core.Bool.{Bool, true, false, _||_, cond}
 use mathlib.Core.List.{List}
@@ -137,7 +137,7 @@ empty-sized : (source : List ℕ) (time : ℕ) → Sized (emptyFrame source time
 empty-sized source time = let zeros = length-replicate {A = ℕ} 64 0 in record { svid = zeros; dataset = zeros }
 
 module _ (asdu : List ℕ) {p : SvPlaces} where
-  pub walked-none : p ≡ noPlaces → Walked asdu p 0
+  pub walked-none : p ≡ noPlaces InvalidInput → Walked asdu p 0
   walked-none e =
       record {
         bound = omega arith;
@@ -146,7 +146,7 @@ module _ (asdu : List ℕ) {p : SvPlaces} where
             ∙ fields-read (emptyFrame source time) false (elements asdu) (empty-sized source time);
       }
 
-  pub refused-places : (source : List ℕ) → p ≡ noPlaces → placedReading source asdu p ≡ refused InvalidInput
+  pub refused-places : (source : List ℕ) → p ≡ noPlaces InvalidInput → placedReading source asdu p ≡ refused InvalidInput
   refused-places source e = ap (placedReading source asdu) e
 
   module _ {at : ℕ} (w : Walked asdu p at) where

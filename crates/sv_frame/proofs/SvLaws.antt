@@ -22,7 +22,7 @@ use Rattle.wire.specs.Element.{Sought, found, missing, error, firstContent, ope
 use Rattle.sv_frame.specs.Field.{savPduTag, seqAsduTag, asduTag, smpCntTag, fieldFits, withField}
 use Rattle.wire.specs.Reader.{afterElement}
 use Rattle.sv_frame.specs.Sv.{readSv, refusedSv, fieldsFrom, asduFrame, seqAsduFrame, savPduFrame, emptyFrame, apduFrame}
-use Rattle.sv_frame.specs.Sv.{inside, asduOf, noFields, endedFields, goesOnAt, goesOn, withElement, answeredFrom, fieldsOn}
+use Rattle.sv_frame.specs.Sv.{inside, asduOf, noFields, failedFields, goesOnAt, goesOn, withElement, answeredFrom, fieldsOn}
 use Rattle.records.proofs.Booleans.{or-true, or-false}
 use types.Run.{OneOf}
 use denote.Enum.Declared.{tagOf}
@@ -132,27 +132,25 @@ module _ (apdu : List ℕ) (r : Part) (e : partOf apdu r ≡ opened savPduTag ap
 
         module _ {at₃ len₃ : ℕ} (k₃ : r₃ ≡ At at₃ len₃) (w₂ : PartWithin (length pdu) r₂) (w₃ : PartWithin (length asdus) r₃) where
           -- the inner parts are within the outer ones
-          pub asdu-within : PartWithin (length apdu) r → at + at₂ + at₃ + len₃ ≤ length apdu
-          asdu-within w =
+          pub asdu-found :
+              PartWithin (length apdu) r
+              → (found (take len₃ (drop (at + at₂ + at₃) apdu)) ≡ asduOf apdu) × (at + at₂ + at₃ + len₃ ≤ length apdu)
+          asdu-found w =
               let a = part-within r w k in
-              let b = part-within r₂ w₂ k₂ in
-              let d = part-within r₃ w₃ k₃ in
-              omega (arith, ap length c, ap length c₂, length-take len (drop at apdu), length-take len₂ (drop at₂ pdu), a, b, d)
-
-          pub asdu-found : found (take len₃ (drop (at + at₂ + at₃) apdu)) ≡ asduOf apdu
-          asdu-found =
               let b = part-within r₂ w₂ k₂ in
               let d = part-within r₃ w₃ k₃ in
               let n = length-take len (drop at apdu) in
               let m = length-take len₂ (drop at₂ pdu) in
-              let s : at + at₂ + at₃ ≡ at + (at₂ + at₃) = omega arith in
-              ap found
-              (ap (λ n. take len₃ (drop n apdu)) s
-              ∙ sym (part-part apdu at len (at₂ + at₃) len₃ (omega (arith, ap length c, ap length c₂, n, m, b, d)))
-              ∙ ap (λ (l : List ℕ). take len₃ (drop (at₂ + at₃) l)) (sym c)
-              ∙ sym (part-part pdu at₂ len₂ at₃ len₃ (omega (arith, ap length c₂, m, d)))
-              ∙ ap (λ (l : List ℕ). take len₃ (drop at₃ l)) (sym c₂))
-              ∙ sym (asdu-in-a2 ∙ ap (λ (s : Sought). inside s found) (part-found asdus r₃ e₃ k₃))
+              let s : at + at₂ + at₃ ≡ at + (at₂ + at₃) = omega arith in (
+                ap found
+                    (ap (λ n. take len₃ (drop n apdu)) s
+                    ∙ sym (part-part apdu at len (at₂ + at₃) len₃ (omega (arith, ap length c, ap length c₂, n, m, b, d)))
+                    ∙ ap (λ (l : List ℕ). take len₃ (drop (at₂ + at₃) l)) (sym c)
+                    ∙ sym (part-part pdu at₂ len₂ at₃ len₃ (omega (arith, ap length c₂, m, d)))
+                    ∙ ap (λ (l : List ℕ). take len₃ (drop at₃ l)) (sym c₂))
+                    ∙ sym (asdu-in-a2 ∙ ap (λ (s : Sought). inside s found) (part-found asdus r₃ e₃ k₃)),
+                omega (arith, ap length c, ap length c₂, n, m, a, b, d),
+              )
 
 -- the frame of an APDU, by the answer to the search for its ASDU
 module _ (apdu source : List ℕ) (time : ℕ) (r : Part) (e : partOf apdu r ≡ asduOf apdu) where
@@ -215,7 +213,7 @@ module _ (s : SvFields) (octets : List ℕ) where
                 → cond b (fieldsFrom (withField (s .frame) tag content) (s .counted || eqb tag smpCntTag) (elements more)) (refusedSv InvalidInput)
                 ≡ fieldsOn
                 (cond b (record { frame = withField (s .frame) tag content; counted = s .counted || eqb tag smpCntTag; answer = s .answer })
-                (endedFields s InvalidInput)) (elements more)
+                (failedFields s InvalidInput)) (elements more)
             fits content true =
                 sym (ap (answeredFrom (withField (s .frame) tag content) (s .counted || eqb tag smpCntTag) (elements more)) r)
             fits content false = refl
@@ -229,13 +227,13 @@ module _ (s : SvFields) (octets : List ℕ) where
 
 -- the fields with one more element, by what it is
 module _ (s : SvFields) (octets : List ℕ) {e : Element} where
-  pub with-unreadable : e ≡ Unreadable → withElement octets e s ≡ endedFields s InvalidInput
+  pub with-unreadable : e ≡ Unreadable → withElement octets e s ≡ failedFields s InvalidInput
   unfolding withElement
   with-unreadable q = rw q
 
   module _ {tag start len end : ℕ} (q : e ≡ Read tag start len end) {content : List ℕ} (k : content ≡ take len (drop start octets))
       {fits : Bool} (y : fits ≡ fieldFits tag content) where
-    pub with-unfit : fits ≡ false → withElement octets e s ≡ endedFields s InvalidInput
+    pub with-unfit : fits ≡ false → withElement octets e s ≡ failedFields s InvalidInput
     unfolding withElement
     with-unfit n = rw (q, ← k, ← y, n)
 

@@ -23,7 +23,7 @@ use Rattle.sv_frame.specs.Field.{savPduTag, seqAsduTag, asduTag, svidTag
 use Rattle.sv_frame.specs.Field.{valueOr, overlaid, withField, fieldFits}
 use Rattle.wire.specs.Header.{apduOf, sourceOf, withSource, header}
 use Rattle.wire.specs.Number.{bigEndian, unsignedInt}
-use Rattle.sv_frame.specs.Sv.{refusedSv, fieldsFrom, asduFrame, seqAsduFrame, savPduFrame, emptyFrame, apduFrame, headedFrame, svFrame}
+use Rattle.sv_frame.specs.Sv.{refusedSv, fieldsFrom, asduFrame, seqAsduFrame, savPduFrame, emptyFrame, apduFrame, headerFrame, svFrame}
 use Rattle.wire.proofs.ElementLaws.{Contents, FoundOr, all-elements, first-has, opened-has}
 use Rattle.wire.proofs.NumberLaws.{number-below}
 use Rattle.wire.proofs.PartLaws.{part-octets}
@@ -125,7 +125,7 @@ pub sv-legal : (octets : List ℕ) (time : ℕ) → Octets octets → time < 2 ^
 unfolding svFrame header sourceOf
 sv-legal octets time o t = go (apduOf 0x88BA octets)
   where
-    go : (a : Apdu) → LegalSv (headedFrame octets time (withSource octets a) .frame)
+    go : (a : Apdu) → LegalSv (headerFrame octets time (withSource octets a) .frame)
     go (At start end) =
         apdu-legal (take (end - start) (drop start octets)) (part-octets octets o start (end - start))
         (array-tabulate (λ k. octetAt octets (6 + k)) (λ k. o (6 + k)) 6) t

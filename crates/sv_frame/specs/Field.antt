@@ -41,7 +41,8 @@ abbrev pub isValue : Unsigned → Bool
 isValue (Value v) = true
 isValue Refused = false
 
--- svID and data set have 0 to 64 octets, smpCnt has 2, the rate is an unsigned integer of 1 to 4 octets and at most 65535
+-- svID and data set have 0 to 64 octets, smpCnt has 2, the rate is an unsigned integer of 1 to 4 octets and at most 65535; a time, and
+-- other tags, have any length
 unfoldable pub fieldFits : ℕ → List ℕ → Bool
 fieldFits tag content =
     cond (eqb tag svidTag) (leb (length content) 64)

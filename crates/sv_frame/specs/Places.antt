@@ -1,11 +1,10 @@
--- A sampled-values frame read by positions. For the code: what the checks read of a frame, and of an ASDU where it stands.
+-- A sampled-values frame read by places. For the code: what the checks read of a frame, and of an ASDU where it stands.
 use Prim.Native.Nat.{ℕ}
 use mathlib.Core.Bool.{cond}
 use mathlib.Core.List.{List}
 use lib.Dec.{eqb}
 use lib.ListN.{take, drop}
 use Rattle.records.specs.declared.error.VsError.{VsError}
-use Rattle.records.specs.declared.error.VsError.the-variants.{InvalidInput}
 use Rattle.records.specs.declared.frame.SvFrame.{SvFrame}
 use Rattle.records.specs.Name.{nameOf}
 use Rattle.sv_frame.specs.declared.sv.Parsed.{Parsed}
@@ -54,9 +53,9 @@ readingAt source asdu p =
       answer = p .answer;
     }
 
--- no field is read yet, or the ASDU is refused
-abbrev pub noPlaces : SvPlaces
-noPlaces =
+-- no place, and an error
+abbrev pub noPlaces : VsError → SvPlaces
+noPlaces e =
     record {
       «svid_at» = 0;
       «svid_len» = 0;
@@ -66,7 +65,7 @@ noPlaces =
       «smp_rate» = 0;
       seconds = 0;
       fraction = 0;
-      answer = Error InvalidInput;
+      answer = Error e;
     }
 
 -- one more field, as a frame takes it: nothing of an earlier name is read

@@ -1,4 +1,4 @@
--- The sampled-values frame (01, "SV frame"). Each refusal is InvalidInput, and has a line of its own.
+-- The sampled-values frame (01, "SV frame"). Each refusal is InvalidInput, and is marked `refused`.
 use Prim.Native.Nat.{ℕ, _-_}
 use mathlib.Core.Bool.{Bool, true, false, _||_, cond}
 use mathlib.Core.List.{List, [], _∷_}
@@ -20,7 +20,7 @@ use Rattle.sv_frame.specs.declared.sv.ParsedSv.{ParsedSv}
 use Rattle.sv_frame.specs.declared.sv.SvFields.{SvFields}
 use Rattle.wire.specs.Element.{Elements, ended, failed, next, elements, Sought, found, missing, error, firstContent, opened}
 use Rattle.sv_frame.specs.Field.{savPduTag, seqAsduTag, asduTag, smpCntTag, fieldFits, withField}
-use Rattle.wire.specs.Header.{header}
+use Rattle.wire.specs.Header.{ethertypeSv, header}
 
 -- the answer as a row: 1, or 0 and the error (01, "Refusals in checking order", 3: 9 for an unreadable frame)
 abbrev pub parsedRow : Parsed → List ℕ
@@ -37,15 +37,15 @@ refusedSv e = record { answer = Error e; frame = defaultSv }
 
 -- the fields of an ASDU in their order, from a frame on: of a repeated tag the last wins
 unfoldable pub fieldsFrom : SvFrame → Bool → Elements → ParsedSv
--- refused: no 82
+-- all is read; refused: no 82
 fieldsFrom f counted ended = cond counted (readSv f) (refusedSv InvalidInput)
 -- refused: an unreadable element
 fieldsFrom f counted (failed e) = refusedSv e
--- refused: a field of a wrong length, or a rate above 65535
+-- a field that fits is taken; refused: one of a wrong length, or a rate above 65535
 fieldsFrom f counted (next tag content rest) =
     cond (fieldFits tag content) (fieldsFrom (withField f tag content) (counted || eqb tag smpCntTag) rest) (refusedSv InvalidInput)
 
--- inside the A2 an initial 30 is opened
+-- by what an initial 30 inside the A2 gives
 abbrev pub asduFrame : SvFrame → Sought → ParsedSv
 asduFrame f (found asdu) = fieldsFrom f false (elements asdu)
 -- refused: an empty A2
@@ -53,7 +53,7 @@ asduFrame f missing = refusedSv InvalidInput
 -- refused: an unreadable 30
 asduFrame f (error e) = refusedSv e
 
--- the first A2 is sought, and nothing after it is read
+-- by what the search for the first A2 gives, after which nothing is read
 abbrev pub seqAsduFrame : SvFrame → Sought → ParsedSv
 seqAsduFrame f (found asdus) = asduFrame f (opened asduTag asdus)
 -- refused: a missing A2
@@ -61,7 +61,7 @@ seqAsduFrame f missing = refusedSv InvalidInput
 -- refused: an unreadable element before it
 seqAsduFrame f (error e) = refusedSv e
 
--- an outer 60 is opened
+-- by what an outer 60 gives
 abbrev pub savPduFrame : SvFrame → Sought → ParsedSv
 savPduFrame f (found pdu) = seqAsduFrame f (firstContent seqAsduTag (elements pdu))
 -- refused: an empty APDU
@@ -89,19 +89,19 @@ emptyFrame source time =
 unfoldable pub apduFrame : List ℕ → List ℕ → ℕ → ParsedSv
 apduFrame apdu source time = savPduFrame (emptyFrame source time) (opened savPduTag apdu)
 
--- the frame of the APDU that the header tells of
+-- the frame of the APDU between these places, from this source
 abbrev pub apduAt : List ℕ → ℕ → List ℕ → Apdu → ParsedSv
 apduAt octets time source (At start end) = apduFrame (take (end - start) (drop start octets)) source time
 -- refused: its header
 apduAt octets time source Refused = refusedSv InvalidInput
 
--- the same, of source and APDU in the header
-abbrev pub headedFrame : List ℕ → ℕ → Header → ParsedSv
-headedFrame octets time h = apduAt octets time (h .«src_mac») (h .apdu)
+-- the frame behind a header
+abbrev pub headerFrame : List ℕ → ℕ → Header → ParsedSv
+headerFrame octets time h = apduAt octets time (h .«src_mac») (h .apdu)
 
 -- the SV frame that some octets hold, EtherType 88 BA, taken at a time; or InvalidInput
 unfoldable pub svFrame : List ℕ → ℕ → ParsedSv
-svFrame octets time = headedFrame octets time (header 0x88BA octets)
+svFrame octets time = headerFrame octets time (header ethertypeSv octets)
 
 -- ---- for the code
 
@@ -120,9 +120,9 @@ asduOf apdu =
 abbrev pub noFields : SvFrame → SvFields
 noFields f = record { frame = f; counted = false; answer = Frame }
 
--- the fields so far, ended by an error
-abbrev pub endedFields : SvFields → VsError → SvFields
-endedFields s e = record { frame = s .frame; counted = s .counted; answer = Error e }
+-- the fields so far, and an error
+abbrev pub failedFields : SvFields → VsError → SvFields
+failedFields s e = record { frame = s .frame; counted = s .counted; answer = Error e }
 
 -- reading goes on up to the end or to an error
 abbrev pub goesOnAt : ℕ → Parsed → Bool
@@ -134,7 +134,7 @@ goesOn octets s = goesOnAt (length octets) (s .answer)
 
 -- the fields with one more element
 unfoldable pub withElement : List ℕ → Element → SvFields → SvFields
-withElement octets Unreadable s = endedFields s InvalidInput
+withElement octets Unreadable s = failedFields s InvalidInput
 withElement octets (Read tag start len end) s =
     cond (fieldFits tag (take len (drop start octets)))
     (record {
@@ -142,7 +142,7 @@ withElement octets (Read tag start len end) s =
       counted = s .counted || eqb tag smpCntTag;
       answer = s .answer;
     })
-    (endedFields s InvalidInput)
+    (failedFields s InvalidInput)
 
 -- the frame that the fields so far give with the elements that follow
 abbrev pub answeredFrom : SvFrame → Bool → Elements → Parsed → ParsedSv

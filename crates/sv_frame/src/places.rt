@@ -1,4 +1,4 @@
-// A sampled-values frame read by positions: where its names stand in the ASDU, and its numbers. No frame is built in between.
+// A sampled-values frame read by places: where its names stand in the ASDU, and its numbers. No frame is built in between.
 ghost use mathlib.Core.List.{List};
 ghost use mathlib.Core.Path.{_≡_};
 ghost use mathlib.Core.Bool.{false};
@@ -38,9 +38,9 @@ pub struct SvPlaces {
     pub answer: Parsed,
 }
 
-// No field is read yet, or the ASDU is refused.
-fn no_places() -> SvPlaces
-    ensures { λ r. ⌜ r ≡ noPlaces ⌝ }
+// No place, and the error: of an ASDU in which no count was read yet, and of one that is refused.
+fn no_places(error: VsError) -> SvPlaces
+    ensures { λ r. ⌜ r ≡ noPlaces error ⌝ }
 {
     SvPlaces {
         svid_at: 0,
@@ -51,7 +51,7 @@ fn no_places() -> SvPlaces
         smp_rate: 0,
         seconds: 0,
         fraction: 0,
-        answer: Parsed::Error(VsError::InvalidInput),
+        answer: Parsed::Error(error),
     }
 }
 
@@ -101,7 +101,7 @@ pub fn sv_places(asdu: &[u8]) -> SvPlaces
     ensures { λ r. ⌜ ((source : List ℕ) (time : ℕ) → placedReading source (now (asdu .entry)) r
         ≡ parsedReading (fieldsFrom (emptyFrame source time) false (elements (now (asdu .entry))))) ⌝ }
 {
-    let mut out = no_places();
+    let mut out = no_places(VsError::InvalidInput);
     let mut at: usize = 0;
     while at < asdu.len() {
         let Element::Read {
@@ -111,11 +111,11 @@ pub fn sv_places(asdu: &[u8]) -> SvPlaces
             end,
         } = parse_tlv(&asdu[at..])
         else {
-            return no_places();
+            return no_places(VsError::InvalidInput);
         };
         let place = at + start;
         if !field_fits(tag, content(asdu, place, len)) {
-            return no_places();
+            return no_places(VsError::InvalidInput);
         }
         out = with_place(out, asdu, tag, place, len);
         at = at + end;

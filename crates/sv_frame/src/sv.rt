@@ -3,10 +3,11 @@
 ghost use mathlib.Core.Path.{_≡_};
 ghost use mathlib.Core.Bool.{false};
 ghost use Rattle.records.specs.declared.error.VsError.the-variants.{InvalidInput};
-ghost use Rattle.wire.specs.Element.{elements, ended, partOf};
+ghost use lib.ListN.{length};
+ghost use Rattle.wire.specs.Element.{elements, ended, partOf, PartWithin};
 ghost use Rattle.sv_frame.specs.Refusals.{FrameOr9};
 ghost use Rattle.sv_frame.specs.Sv.{refusedSv, fieldsFrom, apduFrame, svFrame};
-ghost use Rattle.sv_frame.specs.Sv.{asduOf, noFields, endedFields, goesOn, withElement, fieldsOn};
+ghost use Rattle.sv_frame.specs.Sv.{asduOf, noFields, failedFields, goesOn, withElement, fieldsOn};
 use crate::field::ASDU;
 use crate::field::SAV_PDU;
 use crate::field::SEQ_ASDU;
@@ -68,9 +69,9 @@ fn no_fields(frame: SvFrame) -> SvFields
     }
 }
 
-// The fields so far, ended by InvalidInput.
-fn ended_fields(fields: SvFields) -> SvFields
-    ensures { λ r. ⌜ r ≡ endedFields fields InvalidInput ⌝ }
+// The fields so far, and InvalidInput.
+fn failed_fields(fields: SvFields) -> SvFields
+    ensures { λ r. ⌜ r ≡ failedFields fields InvalidInput ⌝ }
 {
     let frame = fields.frame;
     SvFields {
@@ -102,11 +103,11 @@ fn with_element(unread: &[u8], element: Element, fields: SvFields) -> SvFields
         end: _,
     } = element
     else {
-        return ended_fields(fields);
+        return failed_fields(fields);
     };
     let field = content(unread, start, len);
     if !field_fits(tag, field) {
-        return ended_fields(fields);
+        return failed_fields(fields);
     }
     let frame = fields.frame;
     let answer = fields.answer;
@@ -159,6 +160,7 @@ pub fn read_fields(asdu: &[u8], frame: SvFrame) -> ParsedSv
 // Where the first ASDU of an APDU is.
 pub fn sv_asdu(apdu: &[u8]) -> Part
     ensures { λ r. ⌜ partOf (now (apdu .entry)) r ≡ asduOf (now (apdu .entry)) ⌝ }
+    ensures within { λ r. ⌜ PartWithin (length (now (apdu .entry))) r ⌝ }
 {
     let Part::At {
         start: pdu_at,

@@ -120,10 +120,12 @@ abbrev pub contentOf : List ℕ → Element → Sought
 contentOf octets (Read tag start len end) = found (take len (drop start octets))
 contentOf octets Unreadable = error InvalidInput
 
--- an element with this tag at the front is opened: its content; other octets are left as they are, and where there are none, nothing is there
+-- an element with this tag at the front is opened: its content; other octets are left as they are; no octets are missing
 unfoldable pub opened : ℕ → List ℕ → Sought
 opened tag [] = missing
 opened tag (first ∷ more) = cond (eqb first tag) (contentOf (first ∷ more) (element (first ∷ more))) (found (first ∷ more))
+
+-- ---- for the code
 
 -- what stands in octets where an answer says
 abbrev pub partOf : List ℕ → Part → Sought

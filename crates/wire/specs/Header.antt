@@ -17,11 +17,18 @@ abbrev pub apduRow : Apdu → List ℕ
 apduRow (At start end) = 1 ∷ start ∷ end ∷ []
 apduRow Refused = errorRow InvalidInput
 
+-- EtherTypes: sampled values, and an 802.1Q tag
+abbrev pub ethertypeSv : ℕ
+ethertypeSv = 0x88BA
+
+abbrev pub ethertypeVlan : ℕ
+ethertypeVlan = 0x8100
+
 -- APPID follows the EtherType, which one 802.1Q tag (81 00 and two octets) may precede
 unfoldable pub appidAt : List ℕ → ℕ
-appidAt octets = cond (eqb (pairAt octets 12) 0x8100) 18 14
+appidAt octets = cond (eqb (pairAt octets 12) ethertypeVlan) 18 14
 
--- the length is 8 or more, counted from APPID, and within the frame; what follows is padding
+-- 8 octets from APPID on are there, which no frame of fewer than 14 has; the length is 8 or more, counted from APPID, and within the frame; what follows is padding
 abbrev pub apduFrom : ℕ → ℕ → ℕ → List ℕ → Apdu
 apduFrom type at len octets =
     cond (leb (at + 8) (length octets) && eqb (pairAt octets (at - 2)) type && leb 8 len && leb (at + len) (length octets))

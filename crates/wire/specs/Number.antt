@@ -10,7 +10,7 @@ use Rattle.records.specs.Row.{errorRow}
 use Rattle.wire.specs.declared.number.Unsigned.{Unsigned}
 use Rattle.wire.specs.declared.number.Unsigned.the-variants.{Value, Refused}
 
--- the number that octets write behind the octets of n
+-- n with these octets appended
 unfoldable pub bigEndianFrom : ℕ → List ℕ → ℕ
 bigEndianFrom n [] = n
 bigEndianFrom n (octet ∷ rest) = bigEndianFrom (n * 256 + octet) rest

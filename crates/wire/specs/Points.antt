@@ -1,4 +1,4 @@
--- The starred reference points of 01 that live in this crate, as rows of the form of the crate below.
+-- The starred reference points of 01 of this crate, as rows of the form of the crate below.
 use mathlib.Core.List.{List, [], _∷_, _++_}
 use Prim.Native.Nat.{ℕ}
 use Rattle.records.specs.Points.{Point}

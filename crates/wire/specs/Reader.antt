@@ -1,4 +1,4 @@
--- For the code: a reader of elements.
+-- For the code: a reader of elements (01, "an element walk holds the part still unread").
 use Prim.Native.Nat.{ℕ}
 use mathlib.Core.List.{List, []}
 use lib.ListN.{drop}

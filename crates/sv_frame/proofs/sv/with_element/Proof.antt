@@ -13,11 +13,11 @@ enum-known-element c = search needs
 enum-told : tie.Need-enum-told
 enum-told c = search needs
 
-ended-fields-requires : tie.Need-ended-fields-requires
-ended-fields-requires c κs = search needs
+failed-fields-requires : tie.Need-failed-fields-requires
+failed-fields-requires c κs = search needs
 
 returns : tie.Need-returns
-returns c = c .ended-fields .ensures ∙ sym (with-unreadable _ _ (c .before .enum-told .given .1))
+returns c = c .failed-fields .ensures ∙ sym (with-unreadable _ _ (c .before .enum-told .given .1))
 
 content-requires : tie.Need-content-requires
 content-requires c κs = search needs
@@ -25,14 +25,14 @@ content-requires c κs = search needs
 field-fits-requires : tie.Need-field-fits-requires
 field-fits-requires c κs = search needs
 
-ended-fields-requires-2 : tie.Need-ended-fields-requires-2
-ended-fields-requires-2 c κs = search needs
+failed-fields-requires-2 : tie.Need-failed-fields-requires-2
+failed-fields-requires-2 c κs = search needs
 
 returns-2 : tie.Need-returns-2
 returns-2 c =
     let ff = c .before .before in
     let t = ff .before .before .before in
-    c .ended-fields2 .ensures
+    c .failed-fields2 .ensures
     ∙ sym (with-unfit _ _ (t .element .given .1) (ff .before .content .ensures) (ff .field-fits .ensures) (not-true _ (c .before .if1 .taken)))
 
 with-field-requires : tie.Need-with-field-requires
@@ -55,11 +55,11 @@ with-element-spec =
     (tie.spec
     enum-known-element
     enum-told
-    ended-fields-requires
+    failed-fields-requires
     returns
     content-requires
     field-fits-requires
-    ended-fields-requires-2
+    failed-fields-requires-2
     returns-2
     with-field-requires
     returns-3)
