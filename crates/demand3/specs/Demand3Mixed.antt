@@ -9,6 +9,7 @@ use Rattle.records.specs.declared.frame.SvFrame.{SvFrame}
 use Rattle.records.specs.Legal.{Octets}
 use Rattle.sv_frame.specs.declared.sv.Parsed.{Parsed}
 use Rattle.sv_frame.specs.declared.sv.Parsed.the-variants.{Frame, Error}
+use Rattle.sv_frame.specs.declared.sv.ParsedSv.{ParsedSv}
 use Rattle.sv_frame.specs.Sv.{svFrame}
 use Rattle.monitor.specs.Monitor.{Monitor}
 use Rattle.inspection.specs.Calls.{Setting, configuredMonitor}
@@ -31,9 +32,12 @@ abbrev pub ifRead : Parsed → SvFrame → List Inspection
 ifRead Frame f = sv f ∷ []
 ifRead (Error e) f = []
 
+abbrev pub parsedInspections : ParsedSv → List Inspection
+parsedInspections p = ifRead (p .answer) (p .frame)
+
 abbrev pub inspectionsOf : Arrival → List Inspection
 inspectionsOf (decoded x) = x ∷ []
-inspectionsOf (raw octets time) = ifRead (svFrame octets time .answer) (svFrame octets time .frame)
+inspectionsOf (raw octets time) = parsedInspections (svFrame octets time)
 
 abbrev pub inspections : List Arrival → List Inspection
 inspections [] = []

@@ -10,6 +10,7 @@ use Rattle.records.specs.Name.{nameOf}
 use Rattle.records.specs.Result.{cleanResult}
 use Rattle.sv_frame.specs.declared.sv.Parsed.{Parsed}
 use Rattle.sv_frame.specs.declared.sv.Parsed.the-variants.{Frame, Error}
+use Rattle.sv_frame.specs.declared.sv.ParsedSv.{ParsedSv}
 use Rattle.sv_frame.specs.Sv.{svFrame}
 use Rattle.checks.specs.declared.sv_publisher.PublisherMatch.{PublisherMatch}
 use Rattle.checks.specs.declared.sv_publisher.PublisherMatch.the-variants.{NotRegistered, WrongAddress, Fits}
@@ -119,6 +120,9 @@ abbrev pub rawInspected : Monitor → Parsed → SvFrame → After RawSv
 rawInspected m Frame f = record { monitor = inspectSv m f .monitor; answer = record { answer = Frame; result = inspectSv m f .answer } }
 rawInspected m (Error e) f = record { monitor = m; answer = record { answer = Error e; result = withAllowed (cleanResult sourceSv) false } }
 
+abbrev pub parsedInspected : Monitor → ParsedSv → After RawSv
+parsedInspected m p = rawInspected m (p .answer) (p .frame)
+
 -- the monitor after a raw frame of these octets at a time, and the result
 unfoldable pub inspectRawSv : Monitor → List ℕ → ℕ → After RawSv
-inspectRawSv m octets time = rawInspected m (svFrame octets time .answer) (svFrame octets time .frame)
+inspectRawSv m octets time = parsedInspected m (svFrame octets time)

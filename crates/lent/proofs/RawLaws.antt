@@ -31,11 +31,11 @@ use Rattle.monitor.specs.Monitor.{Monitor}
 use Rattle.monitor.specs.Parts.{After}
 use Rattle.monitor.specs.Totals.{countedSv}
 use Rattle.inspection.specs.Address.{addressOf}
-use Rattle.inspection.specs.InspectSv.{svReadBy, svBinding, inspectSv, rawInspected, inspectRawSv}
+use Rattle.inspection.specs.InspectSv.{svReadBy, svBinding, inspectSv, rawInspected, parsedInspected, inspectRawSv}
 use Rattle.inspection.specs.Report.{Checked, reported, withAllowed, withVerdict}
 use Rattle.inspection.proofs.StageLaws.{counted-checked}
 use Rattle.lent.specs.declared.raw.RawVerdict.{RawVerdict}
-use Rattle.lent.specs.Raw.{withRawVerdict, parsedInspected, refusedVerdict, readNumbers, checkedReading}
+use Rattle.lent.specs.Raw.{withRawVerdict, refusedVerdict, readNumbers, checkedReading}
 
 -- the verdict on an unreadable frame: not allowed, and no alert
 zeros-refuse : (a : Parsed) → refusedVerdict a .verdict ≡ verdictOf (withAllowed (cleanResult sourceSv) false)

@@ -3,7 +3,6 @@ use Prim.Native.Nat.{ℕ}
 use mathlib.Core.List.{[], _∷_}
 use Rattle.records.specs.Verdict.{verdictOf}
 use Rattle.sv_frame.specs.declared.sv.Parsed.{Parsed}
-use Rattle.sv_frame.specs.declared.sv.ParsedSv.{ParsedSv}
 use Rattle.sv_frame.specs.Places.{SvReading}
 use Rattle.checks.specs.Keys.{plainKey}
 use Rattle.monitor.specs.Monitor.{Monitor}
@@ -12,7 +11,7 @@ use Rattle.monitor.specs.Totals.{countedSv}
 use Rattle.inspection.specs.declared.inspect_sv.RawSv.{RawSv}
 use Rattle.inspection.specs.declared.inspect_sv.SvNumbers.{SvNumbers}
 use Rattle.inspection.specs.Address.{addressOf}
-use Rattle.inspection.specs.InspectSv.{svReadBy, svBinding, rawInspected}
+use Rattle.inspection.specs.InspectSv.{svReadBy, svBinding}
 use Rattle.inspection.specs.Report.{Checked}
 use Rattle.lent.specs.declared.raw.RawVerdict.{RawVerdict}
 
@@ -21,10 +20,6 @@ abbrev pub withRawVerdict : After RawSv → After RawVerdict
 withRawVerdict a = record { monitor = a .monitor; answer = record { answer = a .answer .answer; verdict = verdictOf (a .answer .result) } }
 
 -- ---- for the code
-
--- the monitor after a frame that was read, or was not
-abbrev pub parsedInspected : Monitor → ParsedSv → After RawSv
-parsedInspected m p = rawInspected m (p .answer) (p .frame)
 
 -- an error, not allowed, and no alert
 abbrev pub refusedVerdict : Parsed → RawVerdict
