@@ -5,9 +5,9 @@ ghost use Rattle.io.specs.Counts.{Counts};
 use crate::refusal::put_error;
 use records::frame::SvFrame;
 use sv_frame::sv::Parsed;
+use text::put::append;
 use text::put::put_hex;
 use text::put::put_number;
-use text::put::put_octets;
 
 // Puts a name's stated length and all its octets.
 fn put_stated(line: &mut [u8], at: usize, len: u8, name: &[u8]) -> usize
@@ -47,7 +47,7 @@ fn put_frame(line: &mut [u8], at: usize, frame: SvFrame) -> usize
     requires { ⌜ at ≤ length (now line) ⌝ }
     ensures { λ r. ⌜ Counts r (now (line .exit)) ⌝ }
 {
-    let start = put_octets(line, at, b"frame");
+    let start = append(line, at, b"frame");
     let middle = put_first_fields(line, start, frame);
     put_last_fields(line, middle, frame)
 }

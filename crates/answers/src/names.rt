@@ -3,7 +3,7 @@ ghost use Prim.Native.Nat.{_≤_};
 ghost use lib.ListN.{length};
 ghost use Rattle.io.specs.Counts.{Counts};
 use records::octets::least;
-use text::put::put_octets;
+use text::put::append;
 use text::words::short_word_end;
 
 // How many octets the table has: 24 for each name.
@@ -68,11 +68,11 @@ pub fn put_name(line: &mut [u8], at: usize, names: &[u8], place: usize) -> usize
     requires { ⌜ at ≤ length (now line) ⌝ }
     ensures { λ r. ⌜ Counts r (now (line .exit)) ⌝ }
 {
-    let start = put_octets(line, at, b" ");
+    let start = append(line, at, b" ");
     if place >= 48 {
         return start;
     }
     let from = least(24 * place, names.len());
     let to = short_word_end(names, from);
-    put_octets(line, start, &names[from..to])
+    append(line, start, &names[from..to])
 }

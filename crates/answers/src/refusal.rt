@@ -3,8 +3,8 @@ ghost use Prim.Native.Nat.{_≤_};
 ghost use lib.ListN.{length};
 ghost use Rattle.io.specs.Counts.{Counts};
 use script::line::Line;
+use text::put::append;
 use text::put::put_number;
-use text::put::put_octets;
 
 // Puts the error's number.
 pub fn put_error(line: &mut [u8], at: usize, number: u8) -> usize
@@ -20,7 +20,7 @@ fn put_argument(line: &mut [u8], at: usize, k: usize, why: &[u8]) -> usize
     ensures { λ r. ⌜ Counts r (now (line .exit)) ⌝ }
 {
     let end = put_number(line, at, b": argument ", k as u64);
-    put_octets(line, end, why)
+    append(line, end, why)
 }
 
 // Puts why the line of a number is no call.
@@ -33,7 +33,7 @@ pub fn put_malformed(line: &mut [u8], at: usize, number: u64, read: Line) -> usi
         Line::Missing(k) => put_argument(line, end, k, b" missing\n"),
         Line::Malformed(k) => put_argument(line, end, k, b" malformed\n"),
         Line::Unexpected(k) => put_argument(line, end, k, b" unexpected\n"),
-        Line::UnknownCall => put_octets(line, end, b": unknown call\n"),
-        _ => put_octets(line, end, b": too long\n"),
+        Line::UnknownCall => append(line, end, b": unknown call\n"),
+        _ => append(line, end, b": too long\n"),
     }
 }

@@ -7,9 +7,9 @@ use crate::names::put_name;
 use records::alert::CodedAlert;
 use records::alert::SecurityAlert;
 use records::result::InspectResult;
+use text::put::append;
 use text::put::put_flag;
 use text::put::put_number;
-use text::put::put_octets;
 
 // Whether all octets of a hash are 0.
 fn is_zero(hash: [u8; 32]) -> bool {
@@ -115,7 +115,7 @@ fn put_alert(line: &mut [u8], at: usize, names: &[u8], slot: CodedAlert) -> usiz
     let start = put_alert_kind(line, at, names, slot);
     let middle = put_alert_numbers(line, start, alert);
     let end = put_flag(line, middle, b" hash ", !zero);
-    put_octets(line, end, b"]")
+    append(line, end, b"]")
 }
 
 // Puts the alerts of a result.
@@ -151,9 +151,9 @@ fn put_allowed(line: &mut [u8], at: usize, allowed: bool) -> usize
     ensures { λ r. ⌜ Counts r (now (line .exit)) ⌝ }
 {
     if allowed {
-        return put_octets(line, at, b"allowed");
+        return append(line, at, b"allowed");
     }
-    put_octets(line, at, b"refused")
+    append(line, at, b"refused")
 }
 
 // Puts a result: the verdict, the source type, the alerts, and the marks.

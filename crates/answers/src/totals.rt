@@ -10,9 +10,9 @@ use monitor::totals::MMS_TOTAL_INSPECTED;
 use monitor::totals::SV_TOTAL_INSPECTED;
 use monitor::totals::TOTAL_ALERTS;
 use monitor::totals::total_on;
+use text::put::append;
 use text::put::put_flag;
 use text::put::put_number;
-use text::put::put_octets;
 
 // Puts the totals.
 fn put_totals(line: &mut [u8], at: usize, m: &[u64; WORDS]) -> usize
@@ -32,5 +32,5 @@ pub fn put_line_end(line: &mut [u8], at: usize, m: &[u64; WORDS]) -> usize
 {
     let middle = put_totals(line, at, m);
     let end = put_flag(line, middle, b" strict ", flag_on(m, STRICT_MODE));
-    put_octets(line, end, b"\n")
+    append(line, end, b"\n")
 }

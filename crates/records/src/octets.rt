@@ -1,4 +1,4 @@
-// Octets read at a place, and put into a buffer that is lent, for every reader and writer.
+// Octets read at a place, and put into a buffer that is lent, for every reader and writer; the smaller of two numbers.
 ghost use Prim.Native.Nat.{_+_, _≤_, min};
 ghost use mathlib.Core.Path.{_≡_};
 ghost use lib.ListN.{length};
@@ -33,8 +33,7 @@ pub fn put_first(buffer: &mut [u8], at: usize, octets: &[u8], n: usize)
     }
 }
 
-// Puts octets from a place on, as far as there is room. Where there is room for all, their own number is the loop's, so that a caller's eight
-// octets are one store.
+// Puts octets from a place on, as far as there is room. Two calls, so that the compiler sees an array's length: eight octets are one store.
 pub fn put_octets(buffer: &mut [u8], at: usize, octets: &[u8])
     ensures { λ _. ⌜ now (buffer .exit)
         ≡ overwritten (now (buffer .entry)) at (octetAt (now (octets .entry))) (length (now (octets .entry))) ⌝ }

@@ -37,7 +37,7 @@ use script::frames::goose_frame;
 use script::frames::mms_frame;
 use script::frames::schedule;
 use script::frames::sv_frame;
-use text::put::put_octets;
+use text::put::append;
 
 // One of the calls 0 to 9, which answer nothing; call 3 asks for the totals, which every line has.
 fn settle(m: &mut [u64; WORDS], number: u8, call: &[u8]) {
@@ -75,7 +75,7 @@ fn put_added(line: &mut [u8], at: usize, answer: Added) -> usize
     ensures { λ r. ⌜ Counts r (now (line .exit)) ⌝ }
 {
     match answer {
-        Added::Rule => put_octets(line, at, b"added"),
+        Added::Rule => append(line, at, b"added"),
         Added::Error(error) => put_error(line, at, error.number()),
     }
 }
@@ -96,7 +96,7 @@ fn inspect_raw(m: &mut [u64; WORDS], call: &[u8], names: &[u8], line: &mut [u8],
 {
     let raw = inspect_raw_sv_on(m, rest_at(call, 9), u64_at(call, 1));
     let start = put_parsing(call, line, at);
-    let end = put_octets(line, start, b" result ");
+    let end = append(line, start, b" result ");
     let result = raw.result;
     put_result(line, end, names, result)
 }
@@ -114,7 +114,7 @@ fn put_answer(m: &mut [u64; WORDS], call: &[u8], names: &[u8], line: &mut [u8], 
         17 | 18 | 19 | 20 => put_query(call, line, at),
         _ => {
             settle(m, number, call);
-            put_octets(line, at, b"done")
+            append(line, at, b"done")
         }
     }
 }

@@ -5,7 +5,7 @@ ghost use mathlib.Core.Path.{_≡_};
 ghost use lib.ListN.{length};
 use crate::store::store_argument;
 use records::octets::octet_at;
-use text::put::put_octets;
+use text::put::append;
 use text::words::short_word_end;
 use text::words::word_start;
 
@@ -127,7 +127,7 @@ fn read_call(calls: &[u8], line: &[u8], start: usize, end: usize, call: &mut [u8
     }
     let from = 36 * number + 28;
     let to = from + 8;
-    let first = put_octets(call, 0, &[number as u8]);
+    let first = append(call, 0, &[number as u8]);
     store_arguments(&calls[from..to], line, end, call, first)
 }
 

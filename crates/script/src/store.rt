@@ -2,7 +2,7 @@
 // place behind what it stored; numbers stand most significant octet first.
 ghost use Prim.Native.Nat.{_+_, _≤_};
 ghost use lib.ListN.{length};
-use text::put::put_octets;
+use text::put::append;
 use text::values::Digits;
 use text::values::Number;
 use text::values::decimal;
@@ -137,7 +137,7 @@ fn store_flag(word: &[u8], call: &mut [u8], at: usize) -> Stored
         return malformed();
     }
     Stored {
-        end: put_octets(call, at, &[digit]),
+        end: append(call, at, &[digit]),
         good: true,
     }
 }
@@ -208,7 +208,7 @@ fn store_name(word: &[u8], call: &mut [u8], at: usize) -> Stored
     if len > 255 {
         return malformed();
     }
-    put_octets(call, at, &[len as u8]);
+    append(call, at, &[len as u8]);
     Stored {
         end: end,
         good: true,

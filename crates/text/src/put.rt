@@ -3,16 +3,17 @@
 ghost use Prim.Native.Nat.{_+_, _*_, _≤_};
 ghost use lib.ListN.{length};
 ghost use Rattle.io.specs.Counts.{Counts};
+use records::octets::put_octets;
 
 // Puts octets into the line as they are.
-pub fn put_octets(line: &mut [u8], at: usize, octets: &[u8]) -> usize
+pub fn append(line: &mut [u8], at: usize, octets: &[u8]) -> usize
     requires { ⌜ at ≤ length (now line) ⌝ }
     ensures { λ r. ⌜ Counts r (now (line .exit)) ⌝ }
 {
     if octets.len() > line.len() - at {
         return at;
     }
-    records::octets::put_octets(line, at, octets);
+    put_octets(line, at, octets);
     at + octets.len()
 }
 
@@ -29,7 +30,7 @@ fn put_digits(line: &mut [u8], at: usize, number: u64) -> usize
         digits[first] = 48 + (rest % 10) as u8;
         rest = rest / 10;
     }
-    put_octets(line, at, &digits[first..])
+    append(line, at, &digits[first..])
 }
 
 // Puts a word and a number's decimal digits. Most numbers have one.
@@ -37,9 +38,9 @@ pub fn put_number(line: &mut [u8], at: usize, word: &[u8], number: u64) -> usize
     requires { ⌜ at ≤ length (now line) ⌝ }
     ensures { λ r. ⌜ Counts r (now (line .exit)) ⌝ }
 {
-    let start = put_octets(line, at, word);
+    let start = append(line, at, word);
     if number < 10 {
-        return put_octets(line, start, &[48 + number as u8]);
+        return append(line, start, &[48 + number as u8]);
     }
     put_digits(line, start, number)
 }
@@ -49,11 +50,11 @@ pub fn put_flag(line: &mut [u8], at: usize, word: &[u8], flag: bool) -> usize
     requires { ⌜ at ≤ length (now line) ⌝ }
     ensures { λ r. ⌜ Counts r (now (line .exit)) ⌝ }
 {
-    let start = put_octets(line, at, word);
+    let start = append(line, at, word);
     if flag {
-        return put_octets(line, start, b"1");
+        return append(line, start, b"1");
     }
-    put_octets(line, start, b"0")
+    append(line, start, b"0")
 }
 
 // The hexadecimal digit of a number below 16.
@@ -84,7 +85,7 @@ pub fn put_hex(line: &mut [u8], at: usize, octets: &[u8]) -> usize
     requires { ⌜ at ≤ length (now line) ⌝ }
     ensures { λ r. ⌜ Counts r (now (line .exit)) ⌝ }
 {
-    let start = put_octets(line, at, b" ");
+    let start = append(line, at, b" ");
     if octets.len() > (line.len() - start) / 2 {
         return start;
     }
