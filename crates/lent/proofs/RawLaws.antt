@@ -25,7 +25,8 @@ use Rattle.wire.specs.Header.{header}
 use Rattle.sv_frame.specs.Places.{SvReading, readingAt, answered, placedReading, parsedReading}
 use Rattle.sv_frame.specs.Sv.{refusedSv, fieldsFrom, emptyFrame, asduOf, apduFrame, apduAt, headerFrame, svFrame}
 use Rattle.sv_frame.proofs.PlaceLaws.{overlaid-name, read-frame, read-error}
-use Rattle.sv_frame.proofs.SvLaws.{NoPart, frame-none, frame-at}
+use Rattle.wire.proofs.SoughtLaws.{NoPart}
+use Rattle.sv_frame.proofs.SvLaws.{frame-none, frame-at}
 use Rattle.checks.specs.Keys.{plainKey}
 use Rattle.monitor.specs.Monitor.{Monitor}
 use Rattle.monitor.specs.Parts.{After}

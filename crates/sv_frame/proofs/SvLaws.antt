@@ -1,8 +1,7 @@
 -- Laws of the ASDU of an APDU, and of its fields, one element at a time: what the walk of the loop over the reader cites.
 use mathlib.Core.Path.{_≡_, refl, sym, _∙_, ap}
 use mathlib.Core.Bool.{Bool, true, false, _||_, cond, true≢false}
-use mathlib.Core.List.{List, [], _∷_}
-use mathlib.Core.Logic.{⊎-elim}
+use mathlib.Core.List.{List}
 use Prim.Native.Nat.{ℕ, _+_, _≤_, _<_}
 use native.Mathlib.Omega.{arith}
 use borrow.Author.Tests.{ltb-true, ltb-false, eq-eqb, ne-eqb}
@@ -13,7 +12,7 @@ use Rattle.wire.specs.declared.element.Element.{Element}
 use Rattle.wire.specs.declared.element.Element.the-variants.{Read, Unreadable}
 use Rattle.records.specs.declared.error.VsError.the-variants.{InvalidInput}
 use Rattle.wire.specs.declared.element.Part.{Part}
-use Rattle.wire.specs.declared.element.Part.the-variants.{At, Missing, Error as Failed}
+use Rattle.wire.specs.declared.element.Part.the-variants.{At}
 use Rattle.sv_frame.specs.declared.sv.Parsed.{Parsed}
 use Rattle.sv_frame.specs.declared.sv.Parsed.the-variants.{Frame, Error}
 use Rattle.sv_frame.specs.declared.sv.SvFields.{SvFields}
@@ -24,10 +23,8 @@ use Rattle.wire.specs.Reader.{afterElement}
 use Rattle.sv_frame.specs.Sv.{readSv, refusedSv, fieldsFrom, asduFrame, seqAsduFrame, savPduFrame, emptyFrame, apduFrame}
 use Rattle.sv_frame.specs.Sv.{inside, asduOf, noFields, failedFields, goesOnAt, goesOn, withElement, answeredFrom, fieldsOn}
 use Rattle.records.proofs.Booleans.{or-true, or-false}
-use types.Run.{OneOf}
-use denote.Enum.Declared.{tagOf}
-use Rattle.wire.proofs.element.Part as P
 use Rattle.wire.proofs.ElementLaws.{element-end, elements-none, reader-yields, Any, FoundOr, any-opened, any-first}
+use Rattle.wire.proofs.SoughtLaws.{NoPart, part-found, part-none, part-within}
 use Rattle.wire.proofs.PartLaws.{part-part}
 
 -- ---- the ASDU
@@ -56,30 +53,6 @@ frame-of-asdu apdu source time = outer (opened savPduTag apdu)
     outer (found pdu) = middle (firstContent seqAsduTag (elements pdu))
     outer missing = refl
     outer (error e) = refl
-
--- an answer that is no part is either of two
-abbrev pub NoPart : Part → Type 0
-NoPart r = OneOf (1 ∷ 2 ∷ []) (tagOf P.the-type r)
-
--- what is sought, by the answer to the search
-module _ (octets : List ℕ) (r : Part) {s : Sought} (e : partOf octets r ≡ s) where
-  part-found : {start len : ℕ} → r ≡ At start len → s ≡ found (take len (drop start octets))
-  part-found q = sym e ∙ ap (partOf octets) q
-
-  -- one that is not found is the error, for any use of it
-  part-none : {T : Type 0} (then : Sought → T) → then missing ≡ then (error InvalidInput) → FoundOr Any s → NoPart r → then (error InvalidInput) ≡ then s
-  part-none then m f n = go r s n e f
-    where
-      go : (r : Part) (s : Sought) → NoPart r → partOf octets r ≡ s → FoundOr Any s → then (error InvalidInput) ≡ then s
-      go r missing n e f = sym m
-      go r (error x) n e f = ap (λ x. then (error x)) (sym f)
-      go (At start len) (found l) n e f = ⊎-elim (λ z. absurd (omega arith)) (λ z. absurd (omega arith)) n
-      go Missing (found l) n e f = let z : _≡_ {A = ℕ} 0 1 = cc in absurd (omega arith)
-      go (Failed x) (found l) n e f = let z : _≡_ {A = ℕ} 0 1 = cc in absurd (omega arith)
-
--- within so many octets
-pub part-within : {total : ℕ} (r : Part) → PartWithin total r → {start len : ℕ} → r ≡ At start len → start + len ≤ total
-part-within r w q = rw q at w
 
 -- the ASDU, by the answers to the three searches
 abbrev inA2 : List ℕ → Sought

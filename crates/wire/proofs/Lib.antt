@@ -1,6 +1,7 @@
 pub mod PartLaws
 pub mod NumberLaws
 pub mod ElementLaws
+pub mod SoughtLaws
 pub mod HeaderLaws
 pub mod ReaderWalks
 pub mod PointsHold
