@@ -19,12 +19,12 @@ use Rattle.sv_frame.specs.declared.sv.Parsed.the-variants.{Frame, Error}
 use Rattle.sv_frame.specs.declared.sv.ParsedSv.{ParsedSv}
 use Rattle.wire.specs.declared.element.Part.{Part}
 use Rattle.wire.specs.declared.element.Part.the-variants as part
-use Rattle.wire.specs.Element.{elements, partOf}
+use Rattle.wire.specs.Element.{elements}
 use Rattle.sv_frame.specs.Field.{overlaid}
 use Rattle.wire.specs.Header.{header}
-use Rattle.sv_frame.specs.Places.{SvReading, readingAt, answered, placedReading, parsedReading}
-use Rattle.sv_frame.specs.Sv.{refusedSv, fieldsFrom, emptyFrame, asduOf, apduFrame, apduAt, headerFrame, svFrame}
-use Rattle.sv_frame.proofs.PlaceLaws.{overlaid-name, read-frame, read-error}
+use Rattle.sv_frame.specs.Places.{SvReading, readingAt, answered, placedReading, parsedReading, placesOf}
+use Rattle.sv_frame.specs.Sv.{refusedSv, fieldsFrom, emptyFrame, asduPlace, apduFrame, apduAt, headerFrame, svFrame}
+use Rattle.sv_frame.proofs.PlaceLaws.{overlaid-name, places-read, read-frame, read-error}
 use Rattle.wire.proofs.SoughtLaws.{NoPart}
 use Rattle.sv_frame.proofs.SvLaws.{frame-none, frame-at}
 use Rattle.checks.specs.Keys.{plainKey}
@@ -82,7 +82,7 @@ module _ (m : Monitor) (p : ParsedSv) where
 
 -- an APDU without an ASDU
 pub asdu-refused :
-    (m : Monitor) (apdu source : List ℕ) (time : ℕ) (r : Part) → partOf apdu r ≡ asduOf apdu → NoPart r
+    (m : Monitor) (apdu source : List ℕ) (time : ℕ) (r : Part) → r ≡ asduPlace apdu → NoPart r
     → {v : RawVerdict} → v ≡ refusedVerdict (Error InvalidInput)
     → record { monitor = m; answer = v } ≡ withRawVerdict (parsedInspected m (apduFrame apdu source time))
 unfolding refusedSv
@@ -92,13 +92,14 @@ asdu-refused m apdu source time r e n v =
 
 -- by the places of its ASDU
 module _
-    (m : Monitor) (apdu source : List ℕ) (time : ℕ) (r : Part) (a : partOf apdu r ≡ asduOf apdu) {start len : ℕ} (k : r ≡ part.At start len)
+    (m : Monitor) (apdu source : List ℕ) (time : ℕ) (r : Part) (a : r ≡ asduPlace apdu) {start len : ℕ} (k : r ≡ part.At start len)
     {asdu : List ℕ} (c : asdu ≡ take len (drop start apdu)) (places : SvPlaces)
-    (e : placedReading source asdu places ≡ parsedReading (fieldsFrom (emptyFrame source time) false (elements asdu))) where
+    (e : places ≡ placesOf asdu) where
   reading : {x : Parsed} → places .answer ≡ x → answered (readingAt source asdu places) x ≡ parsedReading (apduFrame apdu source time)
   reading h =
       ap (answered (readingAt source asdu places)) (sym h)
-      ∙ e
+      ∙ ap (placedReading source asdu) e
+      ∙ places-read asdu source time
       ∙ ap (λ (l : List ℕ). parsedReading (fieldsFrom (emptyFrame source time) false (elements l))) c
       ∙ ap parsedReading (frame-at apdu source time r a k)
 

@@ -8,7 +8,7 @@ use native.Mathlib.Omega.{arith}
 use lib.Dec.{eqb}
 use lib.ListN.{length, take, drop, length-take, length-drop, length-replicate}
 use lib.Seq.{length-take-le, getD-take, ext-getD}
-use Rattle.records.proofs.Booleans.{cond-holds, cond-yes, cond-no}
+use Rattle.records.proofs.Booleans.{cond-holds}
 use Rattle.records.proofs.NameLaws.{length-overwritten, overwritten-in}
 use Rattle.records.specs.declared.error.VsError.{VsError}
 use Rattle.records.specs.declared.error.VsError.the-variants.{InvalidInput}
@@ -16,16 +16,18 @@ use Rattle.records.specs.declared.frame.SvFrame.{SvFrame}
 use Rattle.records.specs.Name.{validLen, nameOf}
 use Rattle.records.specs.Octets.{octetAt, overwritten}
 use Rattle.wire.specs.declared.element.Element.{Element}
-use Rattle.wire.specs.declared.element.Element.the-variants.{Read, Unreadable}
+use Rattle.wire.specs.declared.element.Element.the-variants.{Read}
 use Rattle.sv_frame.specs.declared.sv.Parsed.{Parsed}
 use Rattle.sv_frame.specs.declared.sv.Parsed.the-variants.{Frame, Error}
 use Rattle.sv_frame.specs.declared.sv.ParsedSv.{ParsedSv}
 use Rattle.sv_frame.specs.declared.places.SvPlaces.{SvPlaces}
 use Rattle.wire.specs.Element.{Elements, ended, failed, next, element, elements}
 use Rattle.sv_frame.specs.Field.{svidTag, datSetTag, smpCntTag, fieldFits, overlaid, withField}
-use Rattle.sv_frame.specs.Places.{SvReading, readingOf, readingAt, noPlaces, withRead, ReadSv, read, refused, answered, placedReading, parsedReading}
+use Rattle.sv_frame.specs.Places.{SvReading, readingOf, readingAt, withRead, ReadSv, read, refused, answered, placedReading, parsedReading}
+use Rattle.sv_frame.specs.Places.{noPlaces, withPlace, placesFrom, placesOf}
 use Rattle.sv_frame.specs.Sv.{refusedSv, fieldsFrom, emptyFrame}
-use Rattle.wire.proofs.ElementLaws.{elements-none, unreadable-at, ends-at, read-at}
+use Rattle.wire.proofs.ElementLaws.{read-at, content-length, content-end}
+use Rattle.wire.proofs.SoughtLaws.{Stands, elements-stand}
 
 -- ---- names
 
@@ -102,7 +104,7 @@ module _ (f : SvFrame) (s : Sized f) (tag : ℕ) (content : List ℕ) where
 unfoldable pub readFrom : SvReading → Elements → ReadSv
 readFrom q ended = answered q (q .answer)
 readFrom q (failed e) = refused e
-readFrom q (next tag content rest) = cond (fieldFits tag content) (readFrom (withRead q tag content) rest) (refused InvalidInput)
+readFrom q (next tag head content rest) = cond (fieldFits tag content) (readFrom (withRead q tag content) rest) (refused InvalidInput)
 
 refused-read : (e : VsError) → parsedReading (refusedSv e) ≡ refused e
 unfolding refusedSv
@@ -114,7 +116,7 @@ unfolding readFrom fieldsFrom
 fields-read f true ended s = refl
 fields-read f false ended s = sym (refused-read InvalidInput)
 fields-read f counted (failed e) s = sym (refused-read e)
-fields-read f counted (next tag content rest) s =
+fields-read f counted (next tag head content rest) s =
     go (fieldFits tag content) _
     (ap (λ (q : SvReading). readFrom q rest) (sym (field-read f s tag content counted))
     ∙ fields-read (withField f tag content) (counted || eqb tag smpCntTag) rest (field-sized f s tag content))
@@ -124,73 +126,101 @@ fields-read f counted (next tag content rest) s =
     go true p e = e
     go false p e = sym (refused-read InvalidInput)
 
--- ---- the walk
+-- ---- the places
 
--- an ASDU that is walked up to a place: what was read, with what follows, is the frame
-pub record Walked (asdu : List ℕ) (p : SvPlaces) (at : ℕ) : Type 0 where
-  pub bound : at ≤ length asdu
-  pub whole :
-      (source : List ℕ) (time : ℕ)
-      → readFrom (readingAt source asdu p) (elements (drop at asdu)) ≡ parsedReading (fieldsFrom (emptyFrame source time) false (elements asdu))
+-- one element at a time
+module _ (p : SvPlaces) (at : ℕ) {es : Elements} where
+  pub places-none : es ≡ ended → placesFrom p at es ≡ p
+  unfolding placesFrom
+  places-none e = rw e
+
+  pub places-failed : {x : VsError} → es ≡ failed x → placesFrom p at es ≡ noPlaces x
+  unfolding placesFrom
+  places-failed e = rw e
+
+  module _ {tag head : ℕ} {content : List ℕ} {rest : Elements} (e : es ≡ next tag head content rest) where
+    places-unfit : fieldFits tag content ≡ false → placesFrom p at es ≡ noPlaces InvalidInput
+    unfolding placesFrom
+    places-unfit n = rw (e, n)
+
+    places-fit :
+        fieldFits tag content ≡ true
+        → placesFrom p at es ≡ placesFrom (withPlace p tag (at + head) (length content) content) (at + head + length content) rest
+    unfolding placesFrom
+    places-fit y = rw (e, y)
+
+-- the same, of an element that is read from a place on
+module _
+    (asdu : List ℕ) (p : SvPlaces) (at : ℕ) {e : Element} (q : e ≡ element (take (length asdu - at) (drop at asdu)))
+    {tag start len end : ℕ} (k : e ≡ Read tag start len end)
+    {content : List ℕ} (c : content ≡ take len (drop (at + start) asdu)) {fits : Bool} (f : fits ≡ fieldFits tag content) where
+  fit : {b : Bool} → fits ≡ b → fieldFits tag (take len (drop (at + start) asdu)) ≡ b
+  fit b = ap (fieldFits tag) (sym c) ∙ sym f ∙ b
+
+  pub walked-unfit : fits ≡ false → placesFrom p at (elements (drop at asdu)) ≡ noPlaces InvalidInput
+  walked-unfit n = places-unfit p at (read-at asdu at q k) (fit n)
+
+  pub walked-more :
+      fits ≡ true → at ≤ length asdu → {r : SvPlaces} → r ≡ withPlace p tag (at + start) len (take len (drop (at + start) asdu))
+      → placesFrom p at (elements (drop at asdu)) ≡ placesFrom r (at + end) (elements (drop (at + end) asdu))
+  walked-more y h r =
+      places-fit p at (read-at asdu at q k) (fit y)
+      ∙ (λ i. placesFrom
+      (withPlace p tag (at + start) (content-length asdu at q k h i) (take len (drop (at + start) asdu)))
+      (content-end asdu at q k h i) (elements (drop (at + end) asdu)))
+      ∙ ap (λ (r : SvPlaces). placesFrom r (at + end) (elements (drop (at + end) asdu))) (sym r)
+
+-- what is read at the places is what is read of the frame
+module _ (asdu source : List ℕ) where
+  named-at : (b : Bool) (at len old-at old-len : ℕ) {content : List ℕ} → content ≡ take len (drop at asdu)
+      → take 64 (take (cond b len old-len) (drop (cond b at old-at) asdu)) ≡ cond b (take 64 content) (take 64 (take old-len (drop old-at asdu)))
+  named-at true at len old-at old-len e = ap (take 64) (sym e)
+  named-at false at len old-at old-len e = refl
+
+  place-read :
+      (p : SvPlaces) (tag at len : ℕ) {content : List ℕ} → content ≡ take len (drop at asdu)
+      → readingAt source asdu (withPlace p tag at len content) ≡ withRead (readingAt source asdu p) tag content
+  unfolding withPlace withRead
+  place-read p tag at len {content} e =
+      let r = withPlace p tag at len content in
+      let a = named-at (eqb tag svidTag) at len (p .«svid_at») (p .«svid_len») e in
+      let b = named-at (eqb tag datSetTag) at len (p .«dataset_at») (p .«dataset_len») e in
+      λ i. record {
+        source = source;
+        svid = a i;
+        dataset = b i;
+        «smp_cnt» = r .«smp_cnt»;
+        «smp_rate» = r .«smp_rate»;
+        seconds = r .seconds;
+        fraction = r .fraction;
+        answer = r .answer;
+      }
+
+  placed-read :
+      (p : SvPlaces) (at : ℕ) (es : Elements) → Stands asdu at es
+      → placedReading source asdu (placesFrom p at es) ≡ readFrom (readingAt source asdu p) es
+  unfolding placesFrom readFrom
+  placed-read p at ended s = refl
+  placed-read p at (failed e) s = refl
+  placed-read p at (next tag head content rest) s =
+      go (fieldFits tag content) _
+      (placed-read (withPlace p tag (at + head) (length content) content) (at + head + length content) rest (s .2)
+      ∙ ap (λ (q : SvReading). readFrom q rest) (place-read p tag (at + head) (length content) (s .0)))
+    where
+      go : (b : Bool) (r : SvPlaces) {q : ReadSv} → placedReading source asdu r ≡ q
+          → placedReading source asdu (cond b r (noPlaces InvalidInput)) ≡ cond b q (refused InvalidInput)
+      go true r e = e
+      go false r e = refl
 
 empty-sized : (source : List ℕ) (time : ℕ) → Sized (emptyFrame source time)
 empty-sized source time = let zeros = length-replicate {A = ℕ} 64 0 in record { svid = zeros; dataset = zeros }
 
-module _ (asdu : List ℕ) {p : SvPlaces} where
-  pub walked-none : p ≡ noPlaces InvalidInput → Walked asdu p 0
-  walked-none e =
-      record {
-        bound = omega arith;
-        whole = λ source time.
-            ap (λ (p : SvPlaces). readFrom (readingAt source asdu p) (elements asdu)) e
-            ∙ fields-read (emptyFrame source time) false (elements asdu) (empty-sized source time);
-      }
-
-  pub refused-places : (source : List ℕ) → p ≡ noPlaces InvalidInput → placedReading source asdu p ≡ refused InvalidInput
-  refused-places source e = ap (placedReading source asdu) e
-
-  module _ {at : ℕ} (w : Walked asdu p at) where
-    -- at the end all is read
-    pub walked-all :
-        length asdu ≤ at → (source : List ℕ) (time : ℕ)
-        → placedReading source asdu p ≡ parsedReading (fieldsFrom (emptyFrame source time) false (elements asdu))
-    unfolding readFrom
-    walked-all h source time =
-        ap (readFrom (readingAt source asdu p)) (sym (elements-none (drop at asdu) (simp length-drop (omega arith)))) ∙ w .whole source time
-
-    module _ {e : Element} (q : e ≡ element (take (length asdu - at) (drop at asdu))) where
-      pub walked-unreadable :
-          at < length asdu → e ≡ Unreadable → (source : List ℕ) (time : ℕ)
-          → refused InvalidInput ≡ parsedReading (fieldsFrom (emptyFrame source time) false (elements asdu))
-      unfolding readFrom
-      walked-unreadable h u source time = ap (readFrom (readingAt source asdu p)) (sym (unreadable-at asdu at q h u)) ∙ w .whole source time
-
-      module _ {tag start len end : ℕ} (k : e ≡ Read tag start len end) where
-        module _ {content : List ℕ} (c : content ≡ take len (drop (at + start) asdu)) {fits : Bool} (f : fits ≡ fieldFits tag content) where
-          fit : {b : Bool} → fits ≡ b → fieldFits tag (take len (drop (at + start) asdu)) ≡ b
-          fit b = ap (fieldFits tag) (sym c) ∙ sym f ∙ b
-
-          pub walked-unfit :
-              fits ≡ false → (source : List ℕ) (time : ℕ)
-              → refused InvalidInput ≡ parsedReading (fieldsFrom (emptyFrame source time) false (elements asdu))
-          unfolding readFrom
-          walked-unfit n source time =
-              sym (cond-no _ _ (fit n)) ∙ ap (readFrom (readingAt source asdu p)) (sym (read-at asdu at q k)) ∙ w .whole source time
-
-          pub walked-more :
-              fits ≡ true → {r : SvPlaces}
-              → ((source : List ℕ) → readingAt source asdu r ≡ withRead (readingAt source asdu p) tag (take len (drop (at + start) asdu)))
-              → Walked asdu r (at + end)
-          unfolding readFrom
-          walked-more y r =
-              record {
-                bound = ends-at asdu at q k (w .bound) .1;
-                whole = λ source time.
-                    ap (λ (x : SvReading). readFrom x (elements (drop (at + end) asdu))) (r source)
-                    ∙ sym (cond-yes _ _ (fit y))
-                    ∙ ap (readFrom (readingAt source asdu p)) (sym (read-at asdu at q k))
-                    ∙ w .whole source time;
-              }
+pub places-read :
+    (asdu source : List ℕ) (time : ℕ)
+    → placedReading source asdu (placesOf asdu) ≡ parsedReading (fieldsFrom (emptyFrame source time) false (elements asdu))
+places-read asdu source time =
+    placed-read asdu source (noPlaces InvalidInput) 0 (elements asdu) (elements-stand asdu)
+    ∙ fields-read (emptyFrame source time) false (elements asdu) (empty-sized source time)
 
 -- ---- a frame, by what is read of it
 

@@ -30,7 +30,7 @@ unfolding fieldsFrom
 fields-read f true ended c = inl refl
 fields-read f false ended c = refused refl
 fields-read f counted (failed e) c = refused c
-fields-read f counted (next tag content rest) c =
+fields-read f counted (next tag head content rest) c =
     cond-holds FrameOr9 (fieldFits tag content) (fields-read (withField f tag content) (counted || eqb tag smpCntTag) rest (c .1)) (refused refl)
 
 module _ (f : SvFrame) where

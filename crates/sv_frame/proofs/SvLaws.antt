@@ -2,6 +2,7 @@
 use mathlib.Core.Path.{_≡_, refl, sym, _∙_, ap}
 use mathlib.Core.Bool.{Bool, true, false, _||_, cond, true≢false}
 use mathlib.Core.List.{List}
+use mathlib.Core.Logic.{⊎-elim}
 use Prim.Native.Nat.{ℕ, _+_, _≤_, _<_}
 use native.Mathlib.Omega.{arith}
 use borrow.Author.Tests.{ltb-true, ltb-false, eq-eqb, ne-eqb}
@@ -12,19 +13,19 @@ use Rattle.wire.specs.declared.element.Element.{Element}
 use Rattle.wire.specs.declared.element.Element.the-variants.{Read, Unreadable}
 use Rattle.records.specs.declared.error.VsError.the-variants.{InvalidInput}
 use Rattle.wire.specs.declared.element.Part.{Part}
-use Rattle.wire.specs.declared.element.Part.the-variants.{At}
+use Rattle.wire.specs.declared.element.Part.the-variants.{At, Missing, Error as Failed}
 use Rattle.sv_frame.specs.declared.sv.Parsed.{Parsed}
 use Rattle.sv_frame.specs.declared.sv.Parsed.the-variants.{Frame, Error}
 use Rattle.sv_frame.specs.declared.sv.SvFields.{SvFields}
 use Rattle.wire.specs.Element.{Elements, failed, element, elements, ended, elementThen}
-use Rattle.wire.specs.Element.{Sought, found, missing, error, firstContent, opened, partOf, PartWithin}
+use Rattle.wire.specs.Element.{Sought, found, missing, error, firstContent, opened, openedPlace, firstPlace, partOf, PartWithin}
 use Rattle.sv_frame.specs.Field.{savPduTag, seqAsduTag, asduTag, smpCntTag, fieldFits, withField}
 use Rattle.wire.specs.Reader.{afterElement}
 use Rattle.sv_frame.specs.Sv.{readSv, refusedSv, fieldsFrom, asduFrame, seqAsduFrame, savPduFrame, emptyFrame, apduFrame}
-use Rattle.sv_frame.specs.Sv.{inside, asduOf, noFields, failedFields, goesOnAt, goesOn, withElement, answeredFrom, fieldsOn}
+use Rattle.sv_frame.specs.Sv.{inside, asduOf, shifted, insideAt, asduPlace, noFields, failedFields, goesOnAt, goesOn, withElement, answeredFrom, fieldsOn}
 use Rattle.records.proofs.Booleans.{or-true, or-false}
 use Rattle.wire.proofs.ElementLaws.{element-end, elements-none, reader-yields, Any, FoundOr, any-opened, any-first}
-use Rattle.wire.proofs.SoughtLaws.{NoPart, part-found, part-none, part-within}
+use Rattle.wire.proofs.SoughtLaws.{NoPart, part-found, part-none, opened-part, opened-within, first-part, first-within}
 use Rattle.wire.proofs.PartLaws.{part-part}
 
 -- ---- the ASDU
@@ -54,88 +55,162 @@ frame-of-asdu apdu source time = outer (opened savPduTag apdu)
     outer missing = refl
     outer (error e) = refl
 
--- the ASDU, by the answers to the three searches
 abbrev inA2 : List ℕ → Sought
 inA2 asdus = inside (opened asduTag asdus) found
 
 abbrev inPdu : List ℕ → Sought
 inPdu pdu = inside (firstContent seqAsduTag (elements pdu)) inA2
 
+-- what is missing in a part is the error: the only one is InvalidInput
+any-inside : (s : Sought) (seek : List ℕ → Sought) → FoundOr Any s → ((l : List ℕ) → FoundOr Any (seek l)) → FoundOr Any (inside s seek)
+any-inside (found l) seek f k = k l
+any-inside missing seek f k = refl
+any-inside (error x) seek f k = f
+
 any-asdu : (apdu : List ℕ) → FoundOr Any (asduOf apdu)
 unfolding asduOf
-any-asdu apdu = outer (opened savPduTag apdu) (any-opened savPduTag apdu)
-  where
-    inner : (s : Sought) → FoundOr Any s → FoundOr Any (inside s found)
-    inner (found l) f = tt
-    inner missing f = refl
-    inner (error x) f = f
+any-asdu apdu =
+    any-inside (opened savPduTag apdu) inPdu (any-opened savPduTag apdu) (λ pdu.
+    any-inside (firstContent seqAsduTag (elements pdu)) inA2 (any-first seqAsduTag pdu) (λ asdus.
+    any-inside (opened asduTag asdus) found (any-opened asduTag asdus) (λ l. tt)))
 
-    middle : (s : Sought) → FoundOr Any s → FoundOr Any (inside s inA2)
-    middle (found l) f = inner (opened asduTag l) (any-opened asduTag l)
-    middle missing f = refl
-    middle (error x) f = f
+inside-by : (s : Sought) {seek other : List ℕ → Sought} → ((l : List ℕ) → seek l ≡ other l) → inside s seek ≡ inside s other
+inside-by (found l) e = e l
+inside-by missing e = refl
+inside-by (error x) e = refl
 
-    outer : (s : Sought) → FoundOr Any s → FoundOr Any (inside s inPdu)
-    outer (found l) f = middle (firstContent seqAsduTag (elements l)) (any-first seqAsduTag l)
-    outer missing f = refl
-    outer (error x) f = f
+-- what is found is found, and what is missing is the error already
+inside-found : (s : Sought) (seek : List ℕ → Sought) → ((l : List ℕ) → inside (seek l) found ≡ seek l) → inside (inside s seek) found ≡ inside s seek
+inside-found (found l) seek e = e l
+inside-found missing seek e = refl
+inside-found (error x) seek e = refl
 
-module _ (apdu : List ℕ) (r : Part) (e : partOf apdu r ≡ opened savPduTag apdu) where
-  pub asdu-unopened : NoPart r → error InvalidInput ≡ asduOf apdu
-  unfolding asduOf
-  asdu-unopened n = part-none apdu r e (λ s. inside s inPdu) refl (any-opened savPduTag apdu) n
+-- ---- its place
+
+-- a place inside another, of which octets and bound are known
+module _
+    (octets : List ℕ) (seek : List ℕ → Sought) (place : List ℕ → Part)
+    (agrees : (l : List ℕ) → (partOf l (place l) ≡ seek l) × PartWithin (length l) (place l)) where
+  shifted-agrees :
+      (start len : ℕ) → start + len ≤ length octets → (p : Part) → partOf (take len (drop start octets)) p ≡ seek (take len (drop start octets))
+      → PartWithin (length (take len (drop start octets))) p
+      → (partOf octets (shifted start p) ≡ inside (seek (take len (drop start octets))) found) × PartWithin (length octets) (shifted start p)
+  shifted-agrees start len h (At s n) e w =
+      let size = length-take len (drop start octets) in (
+        ap found (sym (part-part octets start len s n (omega (arith, w, size)))) ∙ ap (λ (x : Sought). inside x found) e,
+        omega (arith, w, size),
+      )
+  shifted-agrees start len h Missing e w = (ap (λ (x : Sought). inside x found) e, tt)
+  shifted-agrees start len h (Failed x) e w = (ap (λ (x : Sought). inside x found) e, tt)
+
+  inside-agrees :
+      (r : Part) → PartWithin (length octets) r
+      → (partOf octets (insideAt octets r place) ≡ inside (partOf octets r) (λ l. inside (seek l) found))
+      × PartWithin (length octets) (insideAt octets r place)
+  inside-agrees (At start len) w =
+      let a = agrees (take len (drop start octets)) in
+      shifted-agrees start len w (place (take len (drop start octets))) (a .0) (a .1)
+  inside-agrees Missing w = (refl, tt)
+  inside-agrees (Failed x) w = (refl, tt)
+
+pdu-place : List ℕ → Part
+pdu-place pdu = insideAt pdu (firstPlace seqAsduTag 0 (elements pdu)) (openedPlace asduTag)
+
+pdu-agrees : (pdu : List ℕ) → (partOf pdu (pdu-place pdu) ≡ inPdu pdu) × PartWithin (length pdu) (pdu-place pdu)
+unfolding pdu-place
+pdu-agrees pdu =
+    let a = inside-agrees pdu (opened asduTag) (openedPlace asduTag) (λ l. (opened-part asduTag l, opened-within asduTag l))
+    (firstPlace seqAsduTag 0 (elements pdu)) (first-within pdu seqAsduTag) in
+    (a .0 ∙ ap (λ (s : Sought). inside s inA2) (first-part pdu seqAsduTag), a .1)
+
+asdu-agrees : (apdu : List ℕ) → (partOf apdu (asduPlace apdu) ≡ asduOf apdu) × PartWithin (length apdu) (asduPlace apdu)
+unfolding asduPlace asduOf pdu-place
+asdu-agrees apdu =
+    let a = inside-agrees apdu inPdu pdu-place pdu-agrees (openedPlace savPduTag apdu) (opened-within savPduTag apdu) in (
+      a .0
+          ∙ ap (λ (s : Sought). inside s (λ l. inside (inPdu l) found)) (opened-part savPduTag apdu)
+          ∙ inside-by (opened savPduTag apdu) (λ l. inside-found (firstContent seqAsduTag (elements l)) inA2 (λ m. inside-found (opened asduTag m) found (λ x. refl))),
+      a .1,
+    )
+
+pub asdu-within : (apdu : List ℕ) {start len : ℕ} → At start len ≡ asduPlace apdu → start + len ≤ length apdu
+asdu-within apdu e = rw (← e) at (asdu-agrees apdu .1)
+
+-- an answer that is no part is the error, whatever is sought inside it
+module _ (octets : List ℕ) (r : Part) (f : FoundOr Any (partOf octets r)) (n : NoPart r) where
+  none-inside : (place : List ℕ → Part) → Failed InvalidInput ≡ insideAt octets r place
+  none-inside place = go r f n
+    where
+      go : (r : Part) → FoundOr Any (partOf octets r) → NoPart r → Failed InvalidInput ≡ insideAt octets r place
+      go (At start len) f n = ⊎-elim (λ z. absurd (omega arith)) (λ z. absurd (omega arith)) n
+      go Missing f n = refl
+      go (Failed x) f n = ap Failed (sym f)
+
+  none-shifted : (by : ℕ) → Failed InvalidInput ≡ shifted by r
+  none-shifted by = go r f n
+    where
+      go : (r : Part) → FoundOr Any (partOf octets r) → NoPart r → Failed InvalidInput ≡ shifted by r
+      go (At start len) f n = ⊎-elim (λ z. absurd (omega arith)) (λ z. absurd (omega arith)) n
+      go Missing f n = refl
+      go (Failed x) f n = ap Failed (sym f)
+
+any-opened-place : (tag : ℕ) (octets : List ℕ) {r : Part} → r ≡ openedPlace tag octets → FoundOr Any (partOf octets r)
+any-opened-place tag octets e = rw (e, opened-part tag octets) (any-opened tag octets)
+
+any-first-place : (tag : ℕ) (octets : List ℕ) {r : Part} → r ≡ firstPlace tag 0 (elements octets) → FoundOr Any (partOf octets r)
+any-first-place tag octets e = rw (e, first-part octets tag) (any-first tag octets)
+
+-- the place of the ASDU, by the answers to the three searches
+module _ (apdu : List ℕ) {r : Part} (e : r ≡ openedPlace savPduTag apdu) where
+  by-opened : insideAt apdu r pdu-place ≡ asduPlace apdu
+  unfolding asduPlace pdu-place
+  by-opened = ap (λ (r : Part). insideAt apdu r pdu-place) e
+
+  pub asdu-unopened : NoPart r → Failed InvalidInput ≡ asduPlace apdu
+  asdu-unopened n = none-inside apdu r (any-opened-place savPduTag apdu e) n pdu-place ∙ by-opened
 
   module _ {at len : ℕ} (k : r ≡ At at len) (pdu : List ℕ) (c : pdu ≡ take len (drop at apdu)) where
-    asdu-in-pdu : asduOf apdu ≡ inPdu pdu
-    unfolding asduOf
-    asdu-in-pdu = ap (λ (s : Sought). inside s inPdu) (part-found apdu r e k) ∙ ap inPdu (sym c)
+    in-pdu : shifted at (pdu-place pdu) ≡ asduPlace apdu
+    in-pdu = ap (λ (l : List ℕ). shifted at (pdu-place l)) c ∙ ap (λ (r : Part). insideAt apdu r pdu-place) (sym k) ∙ by-opened
 
-    module _ (r₂ : Part) (e₂ : partOf pdu r₂ ≡ firstContent seqAsduTag (elements pdu)) where
-      pub asdu-no-a2 : NoPart r₂ → error InvalidInput ≡ asduOf apdu
-      asdu-no-a2 n = part-none pdu r₂ e₂ (λ s. inside s inA2) refl (any-first seqAsduTag pdu) n ∙ sym asdu-in-pdu
+    module _ {r₂ : Part} (e₂ : r₂ ≡ firstPlace seqAsduTag 0 (elements pdu)) where
+      by-first : insideAt pdu r₂ (openedPlace asduTag) ≡ pdu-place pdu
+      unfolding pdu-place
+      by-first = ap (λ (r : Part). insideAt pdu r (openedPlace asduTag)) e₂
+
+      pub asdu-no-a2 : NoPart r₂ → Failed InvalidInput ≡ asduPlace apdu
+      asdu-no-a2 n =
+          ap (shifted at) (none-inside pdu r₂ (any-first-place seqAsduTag pdu e₂) n (openedPlace asduTag) ∙ by-first) ∙ in-pdu
 
       module _
-          {at₂ len₂ : ℕ} (k₂ : r₂ ≡ At at₂ len₂) (asdus : List ℕ) (c₂ : asdus ≡ take len₂ (drop at₂ pdu))
-          (r₃ : Part) (e₃ : partOf asdus r₃ ≡ opened asduTag asdus) where
-        asdu-in-a2 : asduOf apdu ≡ inA2 asdus
-        asdu-in-a2 = asdu-in-pdu ∙ ap (λ (s : Sought). inside s inA2) (part-found pdu r₂ e₂ k₂) ∙ ap inA2 (sym c₂)
+          {at₂ len₂ : ℕ} (k₂ : r₂ ≡ At at₂ len₂) (asdus : List ℕ) (c₂ : asdus ≡ take len₂ (drop at₂ pdu)) {r₃ : Part}
+          (e₃ : r₃ ≡ openedPlace asduTag asdus) where
+        in-a2 : shifted at (shifted at₂ r₃) ≡ asduPlace apdu
+        in-a2 =
+            ap (λ (r : Part). shifted at (shifted at₂ r)) (e₃ ∙ ap (openedPlace asduTag) c₂)
+            ∙ ap (λ (r : Part). shifted at (insideAt pdu r (openedPlace asduTag))) (sym k₂)
+            ∙ ap (shifted at) by-first
+            ∙ in-pdu
 
-        pub asdu-unread : NoPart r₃ → error InvalidInput ≡ asduOf apdu
-        asdu-unread n = part-none asdus r₃ e₃ (λ s. inside s found) refl (any-opened asduTag asdus) n ∙ sym asdu-in-a2
+        pub asdu-unread : NoPart r₃ → Failed InvalidInput ≡ asduPlace apdu
+        asdu-unread n = ap (shifted at) (none-shifted asdus r₃ (any-opened-place asduTag asdus e₃) n at₂) ∙ in-a2
 
-        module _ {at₃ len₃ : ℕ} (k₃ : r₃ ≡ At at₃ len₃) (w₂ : PartWithin (length pdu) r₂) (w₃ : PartWithin (length asdus) r₃) where
-          -- the inner parts are within the outer ones
-          pub asdu-found :
-              PartWithin (length apdu) r
-              → (found (take len₃ (drop (at + at₂ + at₃) apdu)) ≡ asduOf apdu) × (at + at₂ + at₃ + len₃ ≤ length apdu)
-          asdu-found w =
-              let a = part-within r w k in
-              let b = part-within r₂ w₂ k₂ in
-              let d = part-within r₃ w₃ k₃ in
-              let n = length-take len (drop at apdu) in
-              let m = length-take len₂ (drop at₂ pdu) in
-              let s : at + at₂ + at₃ ≡ at + (at₂ + at₃) = omega arith in (
-                ap found
-                    (ap (λ n. take len₃ (drop n apdu)) s
-                    ∙ sym (part-part apdu at len (at₂ + at₃) len₃ (omega (arith, ap length c, ap length c₂, n, m, b, d)))
-                    ∙ ap (λ (l : List ℕ). take len₃ (drop (at₂ + at₃) l)) (sym c)
-                    ∙ sym (part-part pdu at₂ len₂ at₃ len₃ (omega (arith, ap length c₂, m, d)))
-                    ∙ ap (λ (l : List ℕ). take len₃ (drop at₃ l)) (sym c₂))
-                    ∙ sym (asdu-in-a2 ∙ ap (λ (s : Sought). inside s found) (part-found asdus r₃ e₃ k₃)),
-                omega (arith, ap length c, ap length c₂, n, m, a, b, d),
-              )
+        pub asdu-found : {at₃ len₃ : ℕ} → r₃ ≡ At at₃ len₃ → At (at + (at₂ + at₃)) len₃ ≡ asduPlace apdu
+        asdu-found q = ap (λ (r : Part). shifted at (shifted at₂ r)) (sym q) ∙ in-a2
 
 -- the frame of an APDU, by the answer to the search for its ASDU
-module _ (apdu source : List ℕ) (time : ℕ) (r : Part) (e : partOf apdu r ≡ asduOf apdu) where
+module _ (apdu source : List ℕ) (time : ℕ) (r : Part) (e : r ≡ asduPlace apdu) where
+  stands : partOf apdu r ≡ asduOf apdu
+  stands = ap (partOf apdu) e ∙ asdu-agrees apdu .0
+
   pub frame-none : NoPart r → refusedSv InvalidInput ≡ apduFrame apdu source time
   frame-none n =
-      part-none apdu r e (λ s. asduFrame (emptyFrame source time) s) refl (any-asdu apdu) n ∙ sym (frame-of-asdu apdu source time)
+      part-none apdu r stands (λ s. asduFrame (emptyFrame source time) s) refl (any-asdu apdu) n ∙ sym (frame-of-asdu apdu source time)
 
   pub frame-at :
       {start len : ℕ} → r ≡ At start len
       → fieldsFrom (emptyFrame source time) false (elements (take len (drop start apdu))) ≡ apduFrame apdu source time
-  frame-at q =
-      ap (asduFrame (emptyFrame source time)) (sym (part-found apdu r e q)) ∙ sym (frame-of-asdu apdu source time)
+  frame-at q = ap (asduFrame (emptyFrame source time)) (sym (part-found apdu r stands q)) ∙ sym (frame-of-asdu apdu source time)
 
 -- ---- the walk over the ASDU, one element at a time
 

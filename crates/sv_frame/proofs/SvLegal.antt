@@ -93,7 +93,7 @@ unfolding fieldsFrom
 fields-legal f true ended l c = l
 fields-legal f false ended l c = refused-legal InvalidInput
 fields-legal f counted (failed e) l c = refused-legal e
-fields-legal f counted (next tag content rest) l c =
+fields-legal f counted (next tag head content rest) l c =
     cond-holds (λ (p : ParsedSv). LegalSv (p .frame)) (fieldFits tag content)
     (fields-legal (withField f tag content) (counted || eqb tag smpCntTag) rest (field-legal content (c .0) f tag l) (c .1))
     (refused-legal InvalidInput)

@@ -1,17 +1,19 @@
 -- A sampled-values frame read by places. For the code: what the checks read of a frame, and of an ASDU where it stands.
-use Prim.Native.Nat.{ℕ}
+use Prim.Native.Nat.{ℕ, _+_}
 use mathlib.Core.Bool.{cond}
 use mathlib.Core.List.{List}
 use lib.Dec.{eqb}
-use lib.ListN.{take, drop}
+use lib.ListN.{length, take, drop}
 use Rattle.records.specs.declared.error.VsError.{VsError}
+use Rattle.records.specs.declared.error.VsError.the-variants.{InvalidInput}
 use Rattle.records.specs.declared.frame.SvFrame.{SvFrame}
 use Rattle.records.specs.Name.{nameOf}
 use Rattle.sv_frame.specs.declared.sv.Parsed.{Parsed}
 use Rattle.sv_frame.specs.declared.sv.Parsed.the-variants.{Frame, Error}
 use Rattle.sv_frame.specs.declared.sv.ParsedSv.{ParsedSv}
 use Rattle.sv_frame.specs.declared.places.SvPlaces.{SvPlaces}
-use Rattle.sv_frame.specs.Field.{svidTag, datSetTag, smpCntTag, refrTmTag, smpRateTag, valueOr, secondsOr, fractionOr}
+use Rattle.sv_frame.specs.Field.{svidTag, datSetTag, smpCntTag, refrTmTag, smpRateTag, fieldFits, valueOr, secondsOr, fractionOr}
+use Rattle.wire.specs.Element.{Elements, ended, failed, next, elements}
 use Rattle.wire.specs.Number.{pairAt, unsignedInt}
 
 -- what the checks read of a frame: its source, its names and its numbers; and the answer, which is InvalidInput without a count
@@ -67,6 +69,34 @@ noPlaces e =
       fraction = 0;
       answer = Error e;
     }
+
+-- the places with one more field, of so many octets from a place on
+unfoldable pub withPlace : SvPlaces → ℕ → ℕ → ℕ → List ℕ → SvPlaces
+withPlace p tag at len content =
+    record {
+      «svid_at» = cond (eqb tag svidTag) at (p .«svid_at»);
+      «svid_len» = cond (eqb tag svidTag) len (p .«svid_len»);
+      «dataset_at» = cond (eqb tag datSetTag) at (p .«dataset_at»);
+      «dataset_len» = cond (eqb tag datSetTag) len (p .«dataset_len»);
+      «smp_cnt» = cond (eqb tag smpCntTag) (pairAt content 0) (p .«smp_cnt»);
+      «smp_rate» = cond (eqb tag smpRateTag) (valueOr (p .«smp_rate») (unsignedInt content)) (p .«smp_rate»);
+      seconds = cond (eqb tag refrTmTag) (secondsOr (p .seconds) content) (p .seconds);
+      fraction = cond (eqb tag refrTmTag) (fractionOr (p .fraction) content) (p .fraction);
+      answer = cond (eqb tag smpCntTag) Frame (p .answer);
+    }
+
+-- the places of the fields in their order, of elements that begin at a place
+unfoldable pub placesFrom : SvPlaces → ℕ → Elements → SvPlaces
+placesFrom p at ended = p
+placesFrom p at (failed e) = noPlaces e
+placesFrom p at (next tag head content rest) =
+    cond (fieldFits tag content)
+    (placesFrom (withPlace p tag (at + head) (length content) content) (at + head + length content) rest)
+    (noPlaces InvalidInput)
+
+-- of an ASDU, which without a count is InvalidInput
+abbrev pub placesOf : List ℕ → SvPlaces
+placesOf asdu = placesFrom (noPlaces InvalidInput) 0 (elements asdu)
 
 -- one more field, as a frame takes it: nothing of an earlier name is read
 unfoldable pub withRead : SvReading → ℕ → List ℕ → SvReading

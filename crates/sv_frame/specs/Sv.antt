@@ -1,5 +1,5 @@
 -- The sampled-values frame (01, "SV frame"). Each refusal is InvalidInput, and is marked `refused`.
-use Prim.Native.Nat.{ℕ, _-_}
+use Prim.Native.Nat.{ℕ, _+_, _-_}
 use mathlib.Core.Bool.{Bool, true, false, _||_, cond}
 use mathlib.Core.List.{List, [], _∷_}
 use lib.Dec.{eqb, ltb}
@@ -11,6 +11,8 @@ use Rattle.records.specs.Frame.{defaultSv}
 use Rattle.records.specs.Row.{errorRow}
 use Rattle.wire.specs.declared.element.Element.{Element}
 use Rattle.wire.specs.declared.element.Element.the-variants.{Read, Unreadable}
+use Rattle.wire.specs.declared.element.Part.{Part}
+use Rattle.wire.specs.declared.element.Part.the-variants as part
 use Rattle.wire.specs.declared.header.Apdu.{Apdu}
 use Rattle.wire.specs.declared.header.Apdu.the-variants.{At, Refused}
 use Rattle.wire.specs.declared.header.Header.{Header}
@@ -19,6 +21,7 @@ use Rattle.sv_frame.specs.declared.sv.Parsed.the-variants.{Frame, Error}
 use Rattle.sv_frame.specs.declared.sv.ParsedSv.{ParsedSv}
 use Rattle.sv_frame.specs.declared.sv.SvFields.{SvFields}
 use Rattle.wire.specs.Element.{Elements, ended, failed, next, elements, Sought, found, missing, error, firstContent, opened}
+use Rattle.wire.specs.Element.{openedPlace, firstPlace}
 use Rattle.sv_frame.specs.Field.{savPduTag, seqAsduTag, asduTag, smpCntTag, fieldFits, withField}
 use Rattle.wire.specs.Header.{ethertypeSv, header}
 
@@ -42,7 +45,7 @@ fieldsFrom f counted ended = cond counted (readSv f) (refusedSv InvalidInput)
 -- refused: an unreadable element
 fieldsFrom f counted (failed e) = refusedSv e
 -- a field that fits is taken; refused: one of a wrong length, or a rate above 65535
-fieldsFrom f counted (next tag content rest) =
+fieldsFrom f counted (next tag head content rest) =
     cond (fieldFits tag content) (fieldsFrom (withField f tag content) (counted || eqb tag smpCntTag) rest) (refusedSv InvalidInput)
 
 -- by what an initial 30 inside the A2 gives
@@ -115,6 +118,21 @@ inside (error e) seek = error e
 unfoldable pub asduOf : List ℕ → Sought
 asduOf apdu =
     inside (opened savPduTag apdu) (λ pdu. inside (firstContent seqAsduTag (elements pdu)) (λ asdus. inside (opened asduTag asdus) found))
+
+-- where it is: a place inside another, and what is sought at a place; what is missing is InvalidInput
+abbrev pub shifted : ℕ → Part → Part
+shifted by (part.At start len) = part.At (by + start) len
+shifted by part.Missing = part.Error InvalidInput
+shifted by (part.Error e) = part.Error e
+
+abbrev pub insideAt : List ℕ → Part → (List ℕ → Part) → Part
+insideAt octets (part.At start len) seek = shifted start (seek (take len (drop start octets)))
+insideAt octets part.Missing seek = part.Error InvalidInput
+insideAt octets (part.Error e) seek = part.Error e
+
+unfoldable pub asduPlace : List ℕ → Part
+asduPlace apdu =
+    insideAt apdu (openedPlace savPduTag apdu) (λ pdu. insideAt pdu (firstPlace seqAsduTag 0 (elements pdu)) (openedPlace asduTag))
 
 -- the fields so far, of which none is read yet
 abbrev pub noFields : SvFrame → SvFields

@@ -1,13 +1,8 @@
 // A sampled-values frame read by places: where its names stand in the ASDU, and its numbers. No frame is built in between.
-ghost use mathlib.Core.List.{List};
 ghost use mathlib.Core.Path.{_≡_};
-ghost use mathlib.Core.Bool.{false};
-ghost use Prim.Native.Nat.{ℕ};
 ghost use lib.ListN.{take, drop, replicate};
-ghost use Rattle.wire.specs.Element.{elements};
-ghost use Rattle.sv_frame.specs.Places.{noPlaces, readingAt, withRead, placedReading, parsedReading};
 ghost use Rattle.sv_frame.specs.Field.{overlaid};
-ghost use Rattle.sv_frame.specs.Sv.{emptyFrame, fieldsFrom};
+ghost use Rattle.sv_frame.specs.Places.{noPlaces, withPlace, placesOf};
 use crate::field::DAT_SET;
 use crate::field::REFR_TM;
 use crate::field::SMP_CNT;
@@ -57,8 +52,7 @@ fn no_places(error: VsError) -> SvPlaces
 
 // The places with one more field, of so many octets from a place of the ASDU on.
 fn with_place(p: SvPlaces, asdu: &[u8], tag: u8, at: usize, len: usize) -> SvPlaces
-    ensures { λ r. ⌜ ((source : List ℕ) → readingAt source (now (asdu .entry)) r
-        ≡ withRead (readingAt source (now (asdu .entry)) p) tag (take len (drop at (now (asdu .entry))))) ⌝ }
+    ensures { λ r. ⌜ r ≡ withPlace p tag at len (take len (drop at (now (asdu .entry)))) ⌝ }
 {
     let mut out = p;
     let field = content(asdu, at, len);
@@ -98,8 +92,7 @@ fn with_place(p: SvPlaces, asdu: &[u8], tag: u8, at: usize, len: usize) -> SvPla
 
 // The places of an ASDU's fields, one after the other: the frame that they give, read where it stands.
 pub fn sv_places(asdu: &[u8]) -> SvPlaces
-    ensures { λ r. ⌜ ((source : List ℕ) (time : ℕ) → placedReading source (now (asdu .entry)) r
-        ≡ parsedReading (fieldsFrom (emptyFrame source time) false (elements (now (asdu .entry))))) ⌝ }
+    ensures { λ r. ⌜ r ≡ placesOf (now (asdu .entry)) ⌝ }
 {
     let mut out = no_places(VsError::InvalidInput);
     let mut at: usize = 0;

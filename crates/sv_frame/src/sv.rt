@@ -3,11 +3,10 @@
 ghost use mathlib.Core.Path.{_≡_};
 ghost use mathlib.Core.Bool.{false};
 ghost use Rattle.records.specs.declared.error.VsError.the-variants.{InvalidInput};
-ghost use lib.ListN.{length};
-ghost use Rattle.wire.specs.Element.{elements, ended, partOf, PartWithin};
+ghost use Rattle.wire.specs.Element.{elements, ended};
 ghost use Rattle.sv_frame.specs.Refusals.{FrameOr9};
 ghost use Rattle.sv_frame.specs.Sv.{refusedSv, fieldsFrom, apduFrame, svFrame};
-ghost use Rattle.sv_frame.specs.Sv.{asduOf, noFields, failedFields, goesOn, withElement, fieldsOn};
+ghost use Rattle.sv_frame.specs.Sv.{asduPlace, noFields, failedFields, goesOn, withElement, fieldsOn};
 use crate::field::ASDU;
 use crate::field::SAV_PDU;
 use crate::field::SEQ_ASDU;
@@ -159,8 +158,7 @@ pub fn read_fields(asdu: &[u8], frame: SvFrame) -> ParsedSv
 
 // Where the first ASDU of an APDU is.
 pub fn sv_asdu(apdu: &[u8]) -> Part
-    ensures { λ r. ⌜ partOf (now (apdu .entry)) r ≡ asduOf (now (apdu .entry)) ⌝ }
-    ensures within { λ r. ⌜ PartWithin (length (now (apdu .entry))) r ⌝ }
+    ensures { λ r. ⌜ r ≡ asduPlace (now (apdu .entry)) ⌝ }
 {
     let Part::At {
         start: pdu_at,
@@ -182,7 +180,7 @@ pub fn sv_asdu(apdu: &[u8]) -> Part
         return Part::Error(VsError::InvalidInput);
     };
     Part::At {
-        start: pdu_at + seq_at + start,
+        start: pdu_at + (seq_at + start),
         len: len,
     }
 }

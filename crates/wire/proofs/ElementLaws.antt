@@ -15,6 +15,7 @@ use Rattle.wire.specs.declared.element.Length.{Length}
 use Rattle.wire.specs.declared.element.Length.the-variants.{Definite, Refused}
 use Rattle.wire.specs.declared.element.Head.{Head}
 use Rattle.wire.specs.declared.element.Head.the-variants as head
+use Rattle.wire.specs.declared.element.Part.the-variants.{At, Missing, Error}
 use Rattle.wire.specs.declared.element.Element.{Element}
 use Rattle.wire.specs.declared.element.Element.the-variants.{Read, Unreadable}
 use Rattle.wire.specs.Number.{bigEndian}
@@ -24,6 +25,7 @@ use Rattle.records.specs.declared.error.VsError.the-variants.{InvalidInput}
 use Rattle.wire.specs.Element.{limited, longForm, lengthOf, headWith, headOf, within, headed, element}
 use Rattle.wire.specs.Element.{Elements, ended, failed, next, elementThen, elementsOf, elements}
 use Rattle.wire.specs.Element.{Sought, found, missing, error, firstContent, contentOf, opened}
+use Rattle.wire.specs.Element.{contentPlace, openedPlace, firstPlace}
 use Rattle.wire.specs.Reader.{afterElement}
 
 module _ (tag start len total : ℕ) where
@@ -192,7 +194,7 @@ elements-enough (suc n) (suc m) (o ∷ more) h g =
     go : (e : Element) → element (o ∷ more) ≡ e → ((end : ℕ) → 2 ≤ end → elementsOf n (drop end (o ∷ more)) ≡ elementsOf m (drop end (o ∷ more)))
         → elementThen (elementsOf n) (o ∷ more) e ≡ elementThen (elementsOf m) (o ∷ more) e
     go Unreadable q f = refl
-    go (Read tag start len end) q f = ap (next tag (take len (drop start (o ∷ more)))) (f end (element-end (o ∷ more) q .0))
+    go (Read tag start len end) q f = ap (next tag start (take len (drop start (o ∷ more)))) (f end (element-end (o ∷ more) q .0))
 
 -- the elements of a part, one by one
 module _ (octets : List ℕ) where
@@ -210,15 +212,15 @@ module _ (octets : List ℕ) where
 
   pub elements-read :
       {tag start len end : ℕ} → element octets ≡ Read tag start len end
-      → elements octets ≡ next tag (take len (drop start octets)) (elements (drop end octets))
+      → elements octets ≡ next tag start (take len (drop start octets)) (elements (drop end octets))
   unfolding elementsOf
   elements-read {tag} {start} {len} {end} e = go octets e
     where
-      go : (l : List ℕ) → element l ≡ Read tag start len end → elementsOf (length l) l ≡ next tag (take len (drop start l)) (elements (drop end l))
+      go : (l : List ℕ) → element l ≡ Read tag start len end → elementsOf (length l) l ≡ next tag start (take len (drop start l)) (elements (drop end l))
       go [] e = let b = element-end [] e in absurd (omega arith)
       go (o ∷ more) e =
           let b = element-end (o ∷ more) e in
-          rw e (ap (next tag (take len (drop start (o ∷ more))))
+          rw e (ap (next tag start (take len (drop start (o ∷ more))))
           (elements-enough (length more) (length (drop end (o ∷ more))) (drop end (o ∷ more)) (simp length-drop (omega arith)) (omega arith)))
 
   -- what a reader yields: the element at the front, then the elements of what is left past it
@@ -241,51 +243,71 @@ module _ (octets : List ℕ) (at : ℕ) {e : Element} (q : e ≡ element (take (
     pub ends-at : at ≤ length octets → (2 ≤ end) × (at + end ≤ length octets) × (start + len ≡ end)
     ends-at h = let b = element-end (drop at octets) (there k) in let n = length-drop at octets in (b .0, omega (arith, b .1, n), b .2)
 
-    pub read-at : elements (drop at octets) ≡ next tag (take len (drop (at + start) octets)) (elements (drop (at + end) octets))
-    read-at = elements-read (drop at octets) (there k) ∙ λ i. next tag (take len (drop-drop start at octets i)) (elements (drop-drop end at octets i))
+    pub read-at : elements (drop at octets) ≡ next tag start (take len (drop (at + start) octets)) (elements (drop (at + end) octets))
+    read-at = elements-read (drop at octets) (there k) ∙ λ i. next tag start (take len (drop-drop start at octets i)) (elements (drop-drop end at octets i))
 
--- the first element with a tag, one element at a time
-module _ (tag : ℕ) {es : Elements} where
-  pub first-none : es ≡ ended → firstContent tag es ≡ missing
-  unfolding firstContent
+-- the place of the first element with a tag, one element at a time
+module _ (tag at : ℕ) {es : Elements} where
+  pub first-none : es ≡ ended → firstPlace tag at es ≡ Missing
+  unfolding firstPlace
   first-none e = rw e
 
-  pub first-failed : {x : VsError} → es ≡ failed x → firstContent tag es ≡ error x
-  unfolding firstContent
+  pub first-failed : {x : VsError} → es ≡ failed x → firstPlace tag at es ≡ Error x
+  unfolding firstPlace
   first-failed e = rw e
 
-  module _ {other : ℕ} {content : List ℕ} {rest : Elements} (e : es ≡ next other content rest) where
-    pub first-same : other ≡ tag → firstContent tag es ≡ found content
-    unfolding firstContent
+  module _ {other head : ℕ} {content : List ℕ} {rest : Elements} (e : es ≡ next other head content rest) where
+    pub first-same : other ≡ tag → firstPlace tag at es ≡ At (at + head) (length content)
+    unfolding firstPlace
     first-same q = rw (e, eq-eqb other tag q)
 
-    pub first-other : (other ≡ tag → ⊥) → firstContent tag es ≡ firstContent tag rest
-    unfolding firstContent
+    pub first-other : (other ≡ tag → ⊥) → firstPlace tag at es ≡ firstPlace tag (at + head + length content) rest
+    unfolding firstPlace
     first-other n = rw (e, ne-eqb other tag n)
 
--- what is opened: a part with another tag in front is left as it is
+-- the same, of an element that is read from a place on
+module _
+    (octets : List ℕ) (at : ℕ) {e : Element} (q : e ≡ element (take (length octets - at) (drop at octets)))
+    {other start len end : ℕ} (k : e ≡ Read other start len end) (h : at ≤ length octets) where
+  pub content-length : length (take len (drop (at + start) octets)) ≡ len
+  content-length =
+      let w = ends-at octets at q k h in
+      length-take len (drop (at + start) octets) ∙ omega (arith, length-drop (at + start) octets, w .1, w .2)
+
+  pub place-same : (tag : ℕ) → other ≡ tag → firstPlace tag at (elements (drop at octets)) ≡ At (at + start) len
+  place-same tag s = first-same tag at (read-at octets at q k) s ∙ ap (At (at + start)) content-length
+
+  pub content-end : at + start + length (take len (drop (at + start) octets)) ≡ at + end
+  content-end = let w = ends-at octets at q k h in omega (arith, content-length, w .2)
+
+  pub place-other :
+      (tag : ℕ) → (other ≡ tag → ⊥) → firstPlace tag at (elements (drop at octets)) ≡ firstPlace tag (at + end) (elements (drop (at + end) octets))
+  place-other tag n =
+      first-other tag at (read-at octets at q k) n ∙ ap (λ (a : ℕ). firstPlace tag a (elements (drop (at + end) octets))) content-end
+
+-- the place of what is opened: a part with another tag in front is left as it is
 module _ (tag : ℕ) where
-  pub opened-none : (octets : List ℕ) → length octets ≡ 0 → opened tag octets ≡ missing
-  unfolding opened
+  pub opened-none : (octets : List ℕ) → length octets ≡ 0 → openedPlace tag octets ≡ Missing
+  unfolding openedPlace
   opened-none [] e = refl
   opened-none (o ∷ more) e = absurd (omega arith)
 
-  pub opened-other : (octets : List ℕ) → 0 < length octets → (octetAt octets 0 ≡ tag → ⊥) → opened tag octets ≡ found octets
-  unfolding opened
+  pub opened-other : (octets : List ℕ) → 0 < length octets → (octetAt octets 0 ≡ tag → ⊥) → openedPlace tag octets ≡ At 0 (length octets)
+  unfolding openedPlace
   opened-other [] h n = absurd (not-suc-le-zero h)
   opened-other (o ∷ more) h n = rw (ne-eqb o tag n)
 
   pub opened-same :
-      (octets : List ℕ) → 0 < length octets → octetAt octets 0 ≡ tag → {e : Element} → element octets ≡ e → opened tag octets ≡ contentOf octets e
-  unfolding opened
+      (octets : List ℕ) → 0 < length octets → octetAt octets 0 ≡ tag → {e : Element} → element octets ≡ e → openedPlace tag octets ≡ contentPlace e
+  unfolding openedPlace
   opened-same [] h e q = absurd (not-suc-le-zero h)
-  opened-same (o ∷ more) h e q = rw (eq-eqb o tag e) (ap (contentOf (o ∷ more)) q)
+  opened-same (o ∷ more) h e q = rw (eq-eqb o tag e) (ap contentPlace q)
 
 -- the contents of elements have a property, and the only error is InvalidInput; likewise of what is sought
 abbrev pub Contents : (List ℕ → Type 0) → Elements → Type 0
 Contents P ended = Unit
 Contents P (failed e) = e ≡ InvalidInput
-Contents P (next tag content rest) = P content × Contents P rest
+Contents P (next tag head content rest) = P content × Contents P rest
 
 abbrev pub FoundOr : (List ℕ → Type 0) → Sought → Type 0
 FoundOr P (found octets) = P octets
@@ -326,7 +348,7 @@ module _
   unfolding firstContent
   first-of tag ended c = tt
   first-of tag (failed e) c = c
-  first-of tag (next other content rest) c = cond-holds (FoundOr P) (eqb other tag) (c .0) (first-of tag rest (c .1))
+  first-of tag (next other head content rest) c = cond-holds (FoundOr P) (eqb other tag) (c .0) (first-of tag rest (c .1))
 
   pub first-has : (tag : ℕ) (octets : List ℕ) → P octets → FoundOr P (firstContent tag (elements octets))
   first-has tag octets o = first-of tag (elements octets) (all-elements octets o)

@@ -78,16 +78,17 @@ headed total head.Unreadable = Unreadable
 unfoldable pub element : List ℕ → Element
 element octets = headed (length octets) (headOf octets)
 
--- the elements of a part, each its tag and its content, up to the part's end or to the error that ended the reading
+-- the elements of a part, each its tag, how many octets its head has, and its content, up to the part's end or to the error that ended the
+-- reading
 pub data Elements : Type 0 where
   ended : Elements
   failed : VsError → Elements
-  next : ℕ → List ℕ → Elements → Elements
+  next : ℕ → ℕ → List ℕ → Elements → Elements
 
 -- an element and what follows it; an unreadable one is InvalidInput
 abbrev pub elementThen : (List ℕ → Elements) → List ℕ → Element → Elements
 elementThen follow octets Unreadable = failed InvalidInput
-elementThen follow octets (Read tag start len end) = next tag (take len (drop start octets)) (follow (drop end octets))
+elementThen follow octets (Read tag start len end) = next tag start (take len (drop start octets)) (follow (drop end octets))
 
 -- nothing, or an element and what follows it
 abbrev pub elementsThen : (List ℕ → Elements) → List ℕ → Elements
@@ -113,7 +114,7 @@ pub data Sought : Type 0 where
 unfoldable pub firstContent : ℕ → Elements → Sought
 firstContent tag ended = missing
 firstContent tag (failed e) = error e
-firstContent tag (next other content rest) = cond (eqb other tag) (found content) (firstContent tag rest)
+firstContent tag (next other head content rest) = cond (eqb other tag) (found content) (firstContent tag rest)
 
 -- the content of an element; of an unreadable one, the error
 abbrev pub contentOf : List ℕ → Element → Sought
@@ -127,13 +128,30 @@ opened tag (first ∷ more) = cond (eqb first tag) (contentOf (first ∷ more) (
 
 -- ---- for the code
 
--- what stands in octets where an answer says
+-- where the content of an element is
+abbrev pub contentPlace : Element → Part
+contentPlace (Read tag start len end) = At start len
+contentPlace Unreadable = Error InvalidInput
+
+-- where what is opened is
+unfoldable pub openedPlace : ℕ → List ℕ → Part
+openedPlace tag [] = Missing
+openedPlace tag (first ∷ more) = cond (eqb first tag) (contentPlace (element (first ∷ more))) (At 0 (length (first ∷ more)))
+
+-- where the content of the first element with this tag is, of elements that begin at a place
+unfoldable pub firstPlace : ℕ → ℕ → Elements → Part
+firstPlace tag at ended = Missing
+firstPlace tag at (failed e) = Error e
+firstPlace tag at (next other head content rest) =
+    cond (eqb other tag) (At (at + head) (length content)) (firstPlace tag (at + head + length content) rest)
+
+-- what stands in octets at a place
 abbrev pub partOf : List ℕ → Part → Sought
 partOf octets (At start len) = found (take len (drop start octets))
 partOf octets Missing = missing
 partOf octets (Error e) = error e
 
--- an answer's part is within so many octets
+-- a place is within so many octets
 abbrev pub PartWithin : ℕ → Part → Type 0
 PartWithin total (At start len) = start + len ≤ total
 PartWithin total Missing = Unit

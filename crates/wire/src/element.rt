@@ -1,8 +1,8 @@
 // Elements (X.690: tag, length, content), carried over from `parse_tlv` and `decode_sv_apdu` in industrial/iec61850-monitor/src/lib.rs
 // of craton-shield a31d888527 (Apache-2.0) and changed: answers carry numbers, and two thin functions give the parts.
 ghost use mathlib.Core.Path.{_≡_};
-ghost use lib.ListN.{length, take, drop};
-ghost use Rattle.wire.specs.Element.{longForm, lengthOf, headOf, within, element, elements, firstContent, opened, partOf, PartWithin};
+ghost use lib.ListN.{take, drop};
+ghost use Rattle.wire.specs.Element.{longForm, lengthOf, headOf, within, element, elements, openedPlace, firstPlace};
 use crate::number::big_endian;
 use records::error::VsError;
 
@@ -153,8 +153,7 @@ pub fn rest<'a>(bytes: &'a [u8], end: usize) -> &'a [u8]
 
 // The element at the front of some octets is opened, if its tag is this one: its content is the part. Otherwise they are left as they are.
 pub fn opened(bytes: &[u8], tag: u8) -> Part
-    ensures { λ r. ⌜ partOf (now (bytes .entry)) r ≡ opened tag (now (bytes .entry)) ⌝ }
-    ensures within { λ r. ⌜ PartWithin (length (now (bytes .entry))) r ⌝ }
+    ensures { λ r. ⌜ r ≡ openedPlace tag (now (bytes .entry)) ⌝ }
 {
     let n = bytes.len();
     if n == 0 {
@@ -180,8 +179,7 @@ pub fn opened(bytes: &[u8], tag: u8) -> Part
 
 // The content of the first element with this tag. Nothing after it is read.
 pub fn first_content(bytes: &[u8], tag: u8) -> Part
-    ensures { λ r. ⌜ partOf (now (bytes .entry)) r ≡ firstContent tag (elements (now (bytes .entry))) ⌝ }
-    ensures within { λ r. ⌜ PartWithin (length (now (bytes .entry))) r ⌝ }
+    ensures { λ r. ⌜ r ≡ firstPlace tag 0 (elements (now (bytes .entry))) ⌝ }
 {
     let mut at: usize = 0;
     while at < bytes.len() {

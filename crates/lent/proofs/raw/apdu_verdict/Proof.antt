@@ -9,7 +9,7 @@ returns : tie.Need-returns
 returns c time =
     let d = c .before .before in
     let a = d .before .before .args in
-    asdu-refused (monitorOf (a .m .now)) (a .apdu .now) (a .source) time (d .sv-asdu .result) (d .sv-asdu .ensures .0) (c .before .match .keys2)
+    asdu-refused (monitorOf (a .m .now)) (a .apdu .now) (a .source) time (d .sv-asdu .result) (d .sv-asdu .ensures) (c .before .match .keys2)
     (c .refused-verdict .ensures)
 
 returns-2 : tie.Need-returns-2
@@ -18,8 +18,8 @@ returns-2 c time =
     let f = p .before .before .before in
     let d = f .before .before in
     let a = d .before .before .args in
-    places-refused (monitorOf (a .m .now)) (a .apdu .now) (a .source) time (d .sv-asdu .result) (d .sv-asdu .ensures .0) (f .start .given .1)
-    (p .before .content .ensures) (p .sv-places .result) (p .sv-places .ensures (a .source) time) (c .before .enum-told2 .given .1)
+    places-refused (monitorOf (a .m .now)) (a .apdu .now) (a .source) time (d .sv-asdu .result) (d .sv-asdu .ensures) (f .start .given .1)
+    (p .before .content .ensures) (p .sv-places .result) (p .sv-places .ensures) (c .before .enum-told2 .given .1)
     (c .refused-verdict2 .ensures)
 
 returns-3 : tie.Need-returns-3
@@ -30,8 +30,8 @@ returns-3 c time =
     let f = p .before .before .before in
     let d = f .before .before in
     let a = d .before .before .args in
-    places-inspected (monitorOf (a .m .now)) (a .apdu .now) (a .source) time (d .sv-asdu .result) (d .sv-asdu .ensures .0) (f .start .given .1)
-    (p .before .content .ensures) (p .sv-places .result) (p .sv-places .ensures (a .source) time) (t .enum-told .given .1)
+    places-inspected (monitorOf (a .m .now)) (a .apdu .now) (a .source) time (d .sv-asdu .result) (d .sv-asdu .ensures) (f .start .given .1)
+    (p .before .content .ensures) (p .sv-places .result) (p .sv-places .ensures) (t .enum-told .given .1)
     (k .check-places .ensures) (c .verdict-on .ensures)
 
 pub apdu-verdict-spec : {M : Type 1} → statement M

@@ -2,35 +2,35 @@
 use borrow.Author.Needs.{needs}
 use borrow.Author.Tests.{ne-eqb}
 use Rattle.sv_frame.specs.Field.{svidTag, datSetTag, smpCntTag, refrTmTag, smpRateTag}
-use Rattle.sv_frame.specs.Places.{withRead}
+use Rattle.sv_frame.specs.Places.{withPlace}
 use Rattle.sv_frame.proofs.places.with_place.Statement.{statement}
 use Rattle.sv_frame.proofs.places.with_place.Tie as tie
 
 returns : tie.Need-returns
-unfolding withRead
-returns c source = rw (c .match .keys1)
+unfolding withPlace
+returns c = rw (c .match .keys1)
 
 returns-2 : tie.Need-returns-2
-unfolding withRead
-returns-2 c source = rw (c .match .keys2)
+unfolding withPlace
+returns-2 c = rw (c .match .keys2)
 
 returns-3 : tie.Need-returns-3
-unfolding withRead
-returns-3 c source = rw (c .pair-at .ensures, c .before .match .keys3, c .before .before .content .ensures)
+unfolding withPlace
+returns-3 c = rw (c .pair-at .ensures, c .before .match .keys3, c .before .before .content .ensures)
 
 returns-4 : tie.Need-returns-4
-unfolding withRead
-returns-4 c source =
+unfolding withPlace
+returns-4 c =
     let t = c .before .before in
     rw (c .fraction-or .ensures, c .before .seconds-or .ensures, t .match .keys4, t .before .content .ensures)
 
 returns-5 : tie.Need-returns-5
-unfolding withRead
-returns-5 c source = rw (c .rate-or .ensures, c .before .match .keys5, c .before .before .content .ensures)
+unfolding withPlace
+returns-5 c = rw (c .rate-or .ensures, c .before .match .keys5, c .before .before .content .ensures)
 
 returns-6 : tie.Need-returns-6
-unfolding withRead
-returns-6 c source =
+unfolding withPlace
+returns-6 c =
     let n = c .match .rest in
     rw (
       ne-eqb _ svidTag (n .0 .0 .0 .0 .1),

@@ -8,7 +8,7 @@ use Rattle.sv_frame.proofs.sv.decode_sv_apdu.Tie as tie
 returns : tie.Need-returns
 returns c =
     let a = c .before .before .sv-asdu in
-    c .refused-sv .ensures ∙ frame-none _ _ _ (a .result) (a .ensures .0) (c .before .match .keys2)
+    c .refused-sv .ensures ∙ frame-none _ _ _ (a .result) (a .ensures) (c .before .match .keys2)
 
 returns-2 : tie.Need-returns-2
 returns-2 c =
@@ -16,7 +16,7 @@ returns-2 c =
     let a = d .before .before .before .before .sv-asdu in
     c .read-fields .ensures
     ∙ rw (c .before .content .ensures, d .default .ensures)
-    (frame-at _ _ _ (a .result) (a .ensures .0) (d .before .before .start .given .1))
+    (frame-at _ _ _ (a .result) (a .ensures) (d .before .before .start .given .1))
 
 pub decode-sv-apdu-spec : {M : Type 1} → statement M
 decode-sv-apdu-spec =

@@ -4,13 +4,13 @@ use mathlib.Core.Path.{_≡_, refl, sym, _∙_}
 use native.Mathlib.Omega.{arith}
 use Prim.Native.Nat.{_-_, _≤_}
 use lib.ListN.{length, drop, length-drop}
-use Rattle.wire.specs.Element.{elements, firstContent}
-use Rattle.wire.proofs.ElementLaws.{elements-none, unreadable-at, ends-at, read-at, first-none, first-failed, first-same, first-other}
+use Rattle.wire.specs.Element.{elements, firstPlace}
+use Rattle.wire.proofs.ElementLaws.{elements-none, unreadable-at, ends-at, first-none, first-failed, place-same, place-other}
 use Rattle.wire.proofs.element.first_content.Statement.{statement}
 use Rattle.wire.proofs.element.first_content.Tie as tie
 
 abbrev Inv-loop : tie.InvT-loop
-Inv-loop bytes tag at₀ at = (at ≤ length bytes) × (firstContent tag (elements bytes) ≡ firstContent tag (elements (drop at bytes)))
+Inv-loop bytes tag at₀ at = (at ≤ length bytes) × (firstPlace tag 0 (elements bytes) ≡ firstPlace tag at (elements (drop at bytes)))
 
 abbrev μ-loop : tie.MeasureT-loop
 μ-loop bytes tag at₀ at = length bytes - at
@@ -40,7 +40,7 @@ returns : tie.Need-returns Inv-loop μ-loop
 returns c =
     let p = c .before .before in
     let l = p .before .before .before .loop in
-    (sym (l .inv .1 ∙ first-failed _ (unreadable-at _ (l .at) (p .parse-tlv .ensures) (omega arith) (c .enum-told .given .1))), tt)
+    sym (l .inv .1 ∙ first-failed _ _ (unreadable-at _ (l .at) (p .parse-tlv .ensures) (omega arith) (c .enum-told .given .1)))
 
 add-t15 : tie.Need-add-t15 Inv-loop μ-loop
 add-t15 c =
@@ -57,9 +57,7 @@ returns-2 c =
     let p = f .before .before in
     let l = p .before .before .before .loop in
     let bytes = p .before .before .before .before .before .args .bytes .now in
-    let w = ends-at bytes (l .at) (p .parse-tlv .ensures) (f .other .given .1) (l .inv .0) in
-    let r = read-at bytes (l .at) (p .parse-tlv .ensures) (f .other .given .1) in
-    (sym (l .inv .1 ∙ first-same _ r (c .if1 .taken)), omega (arith, w .1, w .2))
+    sym (l .inv .1 ∙ place-same bytes (l .at) (p .parse-tlv .ensures) (f .other .given .1) (l .inv .0) _ (c .if1 .taken))
 
 add-at : tie.Need-add-at Inv-loop μ-loop
 add-at c =
@@ -86,14 +84,13 @@ loop-again c =
     let l = p .before .before .before .loop in
     let bytes = p .before .before .before .before .before .args .bytes .now in
     let w = ends-at bytes (l .at) (p .parse-tlv .ensures) (f .other .given .1) (l .inv .0) in
-    let r = read-at bytes (l .at) (p .parse-tlv .ensures) (f .other .given .1) in
-    (w .1, l .inv .1 ∙ first-other _ r (c .if1 .left))
+    (w .1, l .inv .1 ∙ place-other bytes (l .at) (p .parse-tlv .ensures) (f .other .given .1) (l .inv .0) _ (c .if1 .left))
 
 returns-3 : tie.Need-returns-3 Inv-loop μ-loop
 returns-3 c =
     let l = c .before .loop in
     let bytes = c .before .before .before .args .bytes .now in
-    (sym (l .inv .1 ∙ first-none _ (elements-none (drop (l .at) bytes) (simp length-drop (omega arith)))), tt)
+    sym (l .inv .1 ∙ first-none _ _ (elements-none (drop (l .at) bytes) (simp length-drop (omega arith))))
 
 pub first-content-spec : {M : Type 1} → statement M
 first-content-spec =

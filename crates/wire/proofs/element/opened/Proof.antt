@@ -1,15 +1,13 @@
 -- `opened` meets its contract.
 use native.Mathlib.Omega.{arith}
-use mathlib.Core.Path.{sym, _∙_, ap}
-use lib.Seq.{take-length}
-use Rattle.wire.specs.Element.{found}
-use Rattle.wire.proofs.ElementLaws.{element-end, opened-none, opened-other, opened-same}
+use mathlib.Core.Path.{sym, _∙_}
+use Rattle.wire.proofs.ElementLaws.{opened-none, opened-other, opened-same}
 use borrow.Author.Needs.{needs}
 use Rattle.wire.proofs.element.opened.Statement.{statement}
 use Rattle.wire.proofs.element.opened.Tie as tie
 
 returns : tie.Need-returns
-returns c = (sym (opened-none _ (c .before .before .args .bytes .now) (c .if1 .taken)), tt)
+returns c = sym (opened-none _ (c .before .before .args .bytes .now) (c .if1 .taken))
 
 shared-slice-read-if2 : tie.Need-shared-slice-read-if2
 shared-slice-read-if2 c = search needs
@@ -17,7 +15,7 @@ shared-slice-read-if2 c = search needs
 returns-2 : tie.Need-returns-2
 returns-2 c =
     let bytes = c .before .before .before .before .args .bytes .now in
-    (ap found (take-length bytes) ∙ sym (opened-other _ bytes (omega arith) (c .if2 .taken)), omega arith)
+    sym (opened-other _ bytes (omega arith) (c .if2 .taken))
 
 parse-tlv-requires : tie.Need-parse-tlv-requires
 parse-tlv-requires c κs = search needs
@@ -32,15 +30,13 @@ returns-3 : tie.Need-returns-3
 returns-3 c =
     let p = c .before .before in
     let bytes = p .before .before .before .before .before .args .bytes .now in
-    (sym (opened-same _ bytes (omega arith) (p .before .if2 .left) (sym (p .parse-tlv .ensures) ∙ c .enum-told .given .1)), tt)
+    sym (opened-same _ bytes (omega arith) (p .before .if2 .left) (sym (p .parse-tlv .ensures) ∙ c .enum-told .given .1))
 
 returns-4 : tie.Need-returns-4
 returns-4 c =
     let p = c .before .before .before in
     let bytes = p .before .before .before .before .before .args .bytes .now in
-    let e = sym (p .parse-tlv .ensures) ∙ c .before .start .given .1 in
-    let b = element-end bytes e in
-    (sym (opened-same _ bytes (omega arith) (p .before .if2 .left) e), omega arith)
+    sym (opened-same _ bytes (omega arith) (p .before .if2 .left) (sym (p .parse-tlv .ensures) ∙ c .before .start .given .1))
 
 pub opened-spec : {M : Type 1} → statement M
 opened-spec =
