@@ -22,13 +22,24 @@ use Rattle.wire.specs.Element.{Sought, found, missing, error, firstContent, ope
 use Rattle.sv_frame.specs.Field.{savPduTag, seqAsduTag, asduTag, smpCntTag, fieldFits, withField}
 use Rattle.wire.specs.Reader.{afterElement}
 use Rattle.sv_frame.specs.Sv.{readSv, refusedSv, fieldsFrom, asduFrame, seqAsduFrame, savPduFrame, emptyFrame, apduFrame}
-use Rattle.sv_frame.specs.Sv.{inside, asduOf, shifted, insideAt, asduPlace, noFields, failedFields, goesOnAt, goesOn, withElement, answeredFrom, fieldsOn}
+use Rattle.sv_frame.specs.Sv.{shifted, insideAt, asduPlace, noFields, failedFields, goesOnAt, goesOn, withElement, answeredFrom, fieldsOn}
 use Rattle.records.proofs.Booleans.{or-true, or-false}
 use Rattle.wire.proofs.ElementLaws.{element-end, elements-none, reader-yields, Any, FoundOr, any-opened, any-first}
 use Rattle.wire.proofs.SoughtLaws.{NoPart, part-found, part-none, opened-part, opened-within, first-part, first-within}
 use Rattle.wire.proofs.PartLaws.{part-part}
 
 -- ---- the ASDU
+
+-- what is sought inside another part; what is missing is InvalidInput
+abbrev inside : Sought → (List ℕ → Sought) → Sought
+inside (found octets) seek = seek octets
+inside missing seek = error InvalidInput
+inside (error e) seek = error e
+
+-- the first ASDU of an APDU
+asduOf : List ℕ → Sought
+asduOf apdu =
+    inside (opened savPduTag apdu) (λ pdu. inside (firstContent seqAsduTag (elements pdu)) (λ asdus. inside (opened asduTag asdus) found))
 
 -- what is not found inside an APDU is refused, and the frame is that of its ASDU
 frame-of-asdu : (apdu source : List ℕ) (time : ℕ) → apduFrame apdu source time ≡ asduFrame (emptyFrame source time) (asduOf apdu)
@@ -129,7 +140,8 @@ asdu-agrees apdu =
     let a = inside-agrees apdu inPdu pdu-place pdu-agrees (openedPlace savPduTag apdu) (opened-within savPduTag apdu) in (
       a .0
           ∙ ap (λ (s : Sought). inside s (λ l. inside (inPdu l) found)) (opened-part savPduTag apdu)
-          ∙ inside-by (opened savPduTag apdu) (λ l. inside-found (firstContent seqAsduTag (elements l)) inA2 (λ m. inside-found (opened asduTag m) found (λ x. refl))),
+          ∙ inside-by (opened savPduTag apdu) (λ l.
+          inside-found (firstContent seqAsduTag (elements l)) inA2 (λ m. inside-found (opened asduTag m) found (λ x. refl))),
       a .1,
     )
 

@@ -108,18 +108,7 @@ svFrame octets time = headerFrame octets time (header ethertypeSv octets)
 
 -- ---- for the code
 
--- what is sought inside another part; what is missing is InvalidInput
-abbrev pub inside : Sought → (List ℕ → Sought) → Sought
-inside (found octets) seek = seek octets
-inside missing seek = error InvalidInput
-inside (error e) seek = error e
-
--- the first ASDU of an APDU
-unfoldable pub asduOf : List ℕ → Sought
-asduOf apdu =
-    inside (opened savPduTag apdu) (λ pdu. inside (firstContent seqAsduTag (elements pdu)) (λ asdus. inside (opened asduTag asdus) found))
-
--- where it is: a place inside another, and what is sought at a place; what is missing is InvalidInput
+-- a place inside another, and what is sought at a place; what is missing is InvalidInput
 abbrev pub shifted : ℕ → Part → Part
 shifted by (part.At start len) = part.At (by + start) len
 shifted by part.Missing = part.Error InvalidInput
@@ -130,6 +119,7 @@ insideAt octets (part.At start len) seek = shifted start (seek (take len (drop s
 insideAt octets part.Missing seek = part.Error InvalidInput
 insideAt octets (part.Error e) seek = part.Error e
 
+-- where the first ASDU of an APDU is
 unfoldable pub asduPlace : List ℕ → Part
 asduPlace apdu =
     insideAt apdu (openedPlace savPduTag apdu) (λ pdu. insideAt pdu (firstPlace seqAsduTag 0 (elements pdu)) (openedPlace asduTag))

@@ -28,7 +28,8 @@ ethertypeVlan = 0x8100
 unfoldable pub appidAt : List ℕ → ℕ
 appidAt octets = cond (eqb (pairAt octets 12) ethertypeVlan) 18 14
 
--- 8 octets from APPID on are there, which no frame of fewer than 14 has; the length is 8 or more, counted from APPID, and within the frame; what follows is padding
+-- 8 octets from APPID on are there, which no frame of fewer than 14 has; the length is 8 or more, counted from APPID, and within the frame; what
+-- follows is padding
 abbrev pub apduFrom : ℕ → ℕ → ℕ → List ℕ → Apdu
 apduFrom type at len octets =
     cond (leb (at + 8) (length octets) && eqb (pairAt octets (at - 2)) type && leb 8 len && leb (at + len) (length octets))
