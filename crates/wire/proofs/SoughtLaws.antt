@@ -42,10 +42,6 @@ module _ (octets : List ℕ) (r : Part) {s : Sought} (e : partOf octets r ≡ s)
       go Missing (found l) n e f = let z : _≡_ {A = ℕ} 0 1 = cc in absurd (omega arith)
       go (Error x) (found l) n e f = let z : _≡_ {A = ℕ} 0 1 = cc in absurd (omega arith)
 
--- within so many octets
-pub part-within : {total : ℕ} (r : Part) → PartWithin total r → {start len : ℕ} → r ≡ At start len → start + len ≤ total
-part-within r w q = rw q at w
-
 -- ---- places and what stands there
 
 module _ (tag : ℕ) where

@@ -121,7 +121,7 @@ abbrev pub contentOf : List ℕ → Element → Sought
 contentOf octets (Read tag start len end) = found (take len (drop start octets))
 contentOf octets Unreadable = error InvalidInput
 
--- an element with this tag at the front is opened: its content; other octets are left as they are; no octets are missing
+-- an element with this tag at the front is opened: its content; other octets are left as they are; of none it is missing
 unfoldable pub opened : ℕ → List ℕ → Sought
 opened tag [] = missing
 opened tag (first ∷ more) = cond (eqb first tag) (contentOf (first ∷ more) (element (first ∷ more))) (found (first ∷ more))
