@@ -3,6 +3,7 @@ pub mod TimeFieldLaws
 pub mod GooseSeqLaws
 pub mod RateLaws
 pub mod ReservationLaws
+pub mod CopyLaws
 pub mod RuleLaws
 pub mod RowLaws
 pub mod TablesRemembered

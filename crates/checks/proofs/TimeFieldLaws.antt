@@ -25,7 +25,7 @@ or-none false true = refl
 or-none false false = refl
 
 -- a clock is its last pair
-latest : (pair : ℕ × ℕ) (o : Option (ℕ × ℕ)) → pair ≡ after (λ i. i) (λ kept i. i) o pair
+pub latest : (pair : ℕ × ℕ) (o : Option (ℕ × ℕ)) → pair ≡ after (λ i. i) (λ kept i. i) o pair
 latest pair none = refl
 latest pair (some kept) = refl
 

@@ -1,14 +1,14 @@
 -- Laws of the search for a slot: one step of it, and what its answer tells.
 use Prim.Native.Nat.{ℕ, zero, suc, _+_, _≤_, _<_, _-_}
-use mathlib.Core.Bool.{Bool, true, false, cond}
-use mathlib.Core.Logic.{by-cases}
+use mathlib.Core.Bool.{Bool, true, false, cond, true≢false}
+use mathlib.Core.Logic.{_≢_, by-cases}
 use mathlib.Core.Path.{_≡_, refl, sym, _∙_}
 use native.Mathlib.Decide.{ℕ-discrete}
 use native.Mathlib.Numerals.{add-one, unary-clauses}
 use native.Mathlib.Omega.{arith}
 use Rattle.records.specs.declared.search.Found.{Found}
 use Rattle.records.specs.declared.search.Found.the-variants.{At, Nothing}
-use Rattle.records.specs.Search.{firstFrom}
+use Rattle.records.specs.Search.{firstFrom, slotOr}
 
 -- a search for the first of n slots has reached slot i: the rest of it answers as the whole
 pub record Reached (test : ℕ → Bool) (n i : ℕ) : Type 0 where
@@ -73,3 +73,20 @@ pub first-same : (f g : ℕ → Bool) (i n : ℕ) → ((j : ℕ) → j < i + n �
 unfolding firstFrom
 first-same f g i zero e = refl
 first-same f g i (suc n) e = rw (e i (omega arith), first-same f g (suc i) n (λ j l. e j (omega arith)))
+
+-- a search again, behind which the slot that was found, or this one where none was, passes the test, and no other that failed it: this one is found
+pub first-again : (f g : ℕ → Bool) (i n s : ℕ) → i ≤ s → s < i + n → g s ≡ true → ((j : ℕ) → j < i + n → j ≢ s → g j ≡ true → f j ≡ true)
+    → slotOr s (firstFrom f i n) ≡ s → firstFrom g i n ≡ At s
+unfolding firstFrom
+first-again f g i zero s a b e h q = absurd (omega arith)
+first-again f g i (suc n) s a b e h q =
+    by-cases (ℕ-discrete i s)
+    (λ p. rw (p, e))
+    (λ p. go p (f i) (g i) refl q (λ r. h i (omega arith) p r) (first-again f g (suc i) n s (omega arith) (omega arith) e (λ j l. h j (omega arith))))
+  where
+    go : i ≢ s → (x y : Bool) → g i ≡ y → slotOr s (cond x (At i) (firstFrom f (suc i) n)) ≡ s → (g i ≡ true → x ≡ true)
+        → (slotOr s (firstFrom f (suc i) n) ≡ s → firstFrom g (suc i) n ≡ At s)
+        → cond y (At i) (firstFrom g (suc i) n) ≡ At s
+    go p true y r z k ih = absurd (p z)
+    go p false true r z k ih = absurd (true≢false (sym (k r)))
+    go p false false r z k ih = ih z

@@ -10,7 +10,7 @@ use borrow.Author.Tests.{lt-ltb, le-ltb, eq-eqb, ne-eqb, eqb-true}
 use lib.Dec.{eqb, ltb}
 use lib.ListN.{length, getD, set, length-set}
 use lib.Seq.{getD-set-same, getD-set-other, ext-getD}
-use Rattle.records.proofs.Booleans.{cond-yes, cond-no, and-no, and-yes, and-both}
+use Rattle.records.proofs.Booleans.{cond-yes, cond-no, and-no, and-yes, and-both, cond-holds}
 use Rattle.tables.proofs.PackedLaws.{packed-same, packed-octet, updated-below}
 use Rattle.tables.specs.Order.{inUse, raised, lowered, usedRank, forgottenRank, rankIn, rankOf, reranked}
 use Rattle.tables.specs.Order.{rankSet, usedSlot, forgottenSlot, freeWord, allFree}
@@ -181,6 +181,9 @@ module _ (t : List ℕ) (s v : ℕ) where
 
 raised-self : (old : ℕ) → raised old old ≡ old
 raised-self old = cond-no _ _ (le-ltb old old (omega arith))
+
+pub raised-least : (old r : ℕ) → r ≤ raised old r
+raised-least old r = cond-holds (λ (n : ℕ). r ≤ n) (ltb r old) (omega arith) (omega arith)
 
 raised-rank : (old r : ℕ) → old < 128 → r < 128 → raised old r < 128
 raised-rank old r o h =

@@ -3,14 +3,13 @@ use Prim.Native.Nat.{ℕ, _<_}
 use mathlib.Core.Bool.{Bool, true, false, _&&_}
 use mathlib.Core.List.{List}
 use mathlib.Core.Path.{_≡_, ap, _∙_}
-use native.Mathlib.Omega.{arith}
 use Rattle.records.proofs.Booleans.{and-both, and-false}
-use Rattle.records.proofs.SearchLaws.{Searched, hit, miss, searched, found-has, first-same}
+use Rattle.records.proofs.SearchLaws.{found-has, first-same}
 use Rattle.records.specs.declared.search.Found.{Found}
 use Rattle.records.specs.declared.search.Found.the-variants.{At, Nothing}
-use Rattle.records.specs.Search.{firstFrom, slotOr}
+use Rattle.records.specs.Search.{firstFrom}
 use Rattle.tables.proofs.OrderLaws.{none-in-use}
-use Rattle.tables.proofs.RankOrder.{new-slot-below}
+use Rattle.tables.proofs.RankOrder.{used-below}
 use Rattle.tables.specs.declared.place.Place.{Place}
 use Rattle.tables.specs.Order.{rankOf, inUse, newSlot, usedSlot, allFree}
 use Rattle.tables.specs.Place.{KeyColumns, Entered, found, entered}
@@ -47,8 +46,4 @@ pub entered-below : {K : Type 0} (keys : KeyColumns K) (t : List ℕ) (k : K) {u
 unfolding entered found
 entered-below keys t k {place = place} e =
     let s : place .slot ≡ entered keys t k .place .slot = ap (λ (x : Entered). x .place .slot) e in
-    rw s (go (searched (λ i. keys .matches t k i && inUse (rankOf t) i) 0 16))
-  where
-    go : {f : Found} → Searched (λ i. keys .matches t k i && inUse (rankOf t) i) 0 16 f → slotOr (newSlot (rankOf t)) f < 16
-    go (hit i h p) = omega arith
-    go (miss p) = new-slot-below (rankOf t)
+    rw s (used-below (rankOf t) (λ i. keys .matches t k i && inUse (rankOf t) i))

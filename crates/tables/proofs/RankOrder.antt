@@ -18,7 +18,7 @@ use Rattle.records.specs.declared.search.Found.{Found}
 use Rattle.records.specs.declared.search.Found.the-variants.{At, Nothing}
 use Rattle.records.specs.Remembered.{lookup, without}
 use Rattle.records.proofs.SearchLaws.{Searched, hit, miss, searched, searched-before}
-use Rattle.records.specs.Search.{firstFrom, slotOr}
+use Rattle.records.specs.Search.{first, firstFrom, slotOr}
 use Rattle.tables.specs.Order.{inUse, newSlot, raised, lowered, usedRank, forgottenRank}
 
 -- slots, the latest used first, as keys of lists with nothing beside them
@@ -133,6 +133,14 @@ module _ (rank : ℕ → ℕ) where
       go : {f : Found} → Searched (λ i. leb 15 (rank i)) 0 15 f → slotOr 15 f < 16
       go (hit s h e) = omega arith
       go (miss g) = omega arith
+
+  -- so is the slot that a frame uses, which a search finds or a new key takes
+  pub used-below : (test : ℕ → Bool) → slotOr (newSlot rank) (first test) < 16
+  used-below test = go (searched test 0 16)
+    where
+      go : {f : Found} → Searched test 0 16 f → slotOr (newSlot rank) f < 16
+      go (hit s h e) = h
+      go (miss g) = new-slot-below
 
   pub new-slot-before : (j : ℕ) → j < newSlot rank → rank j < 15
   unfolding newSlot

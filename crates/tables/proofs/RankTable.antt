@@ -1,25 +1,28 @@
 -- A table of slots and ranks represents the list of its entries by last use; a frame moves both alike.
 use Prim.Native.Nat.{ℕ, _<_, zero-le}
-use mathlib.Core.Bool.{true, _&&_, true≢false}
+use mathlib.Core.Bool.{Bool, true, _&&_, true≢false}
 use mathlib.Core.List.{List, [], _∷_}
 use mathlib.Core.Logic.{_≢_, _↔_}
 use mathlib.Core.Option.{some}
 use mathlib.Core.Path.{_≡_, refl, sym, ap, _∙_}
 use native.Mathlib.Decide.{ℕ-discrete}
+use native.Mathlib.Omega.{arith}
+use borrow.Author.Tests.{lt-ltb, ltb-true, eq-eqb, ne-eqb}
 use lib.ListN.{take, length-map}
 use lib.Seq.{take-all}
+use Rattle.tables.proofs.OrderLaws.{raised-least}
 use Rattle.tables.proofs.RankOrder.{Slots, lookSlot, withoutSlot, Order, order-none}
-use Rattle.tables.proofs.RankOrder.{in-use-there, there-in-use, order-used, order-short, order-forgotten, new-slot}
-use Rattle.records.proofs.Booleans.{and-both, and-yes}
+use Rattle.tables.proofs.RankOrder.{in-use-there, there-in-use, order-used, order-short, order-forgotten, new-slot, used-below}
+use Rattle.records.proofs.Booleans.{cond-no, and-both, and-yes}
 use Rattle.records.proofs.ByLastUse.{touch, touch-distinct}
 use Rattle.records.proofs.KeyedLists.{Absent, Distinct, pairwise-without, lookup-absent, absent-without, without-absent}
 use Rattle.records.proofs.KeyedLists.{all-found, entriesOf, entries-other, entries-absent, entries-take, entries-without, entries-lookup}
-use Rattle.records.proofs.SearchLaws.{Searched, hit, miss, searched}
+use Rattle.records.proofs.SearchLaws.{Searched, hit, miss, searched, first-again}
 use Rattle.records.specs.declared.search.Found.{Found}
 use Rattle.records.specs.declared.search.Found.the-variants.{At, Nothing}
-use Rattle.records.specs.Remembered.{lookup, without}
+use Rattle.records.specs.Remembered.{lookup, without, after}
 use Rattle.records.specs.Search.{slotOr}
-use Rattle.tables.specs.Order.{inUse, newSlot, usedRank, forgottenRank}
+use Rattle.tables.specs.Order.{inUse, newSlot, raised, usedRank, forgottenRank}
 use Rattle.tables.specs.Table.{Columns, slotOf, valueAt, valueOf, target, stepped}
 
 -- a table: states whose columns have 16 slots, keys that a frame may have, the key of a slot, and two laws: a slot matches the key that it
@@ -45,6 +48,10 @@ module _ {K W : Type 0} (B : Table K W) where
   -- the key and value of a slot
   abbrev pub entry : B .State → ℕ → K × W
   entry t i = (B .key t i, B .columns .value t i)
+
+  -- the slot that a frame uses is one of the sixteen
+  pub target-below : (t : B .State) (k : K) → target (B .columns) t k < 16
+  target-below t k = used-below (rank t) (λ i. B .columns .matches t k i && inUse (rank t) i)
 
 module _ {K W : Type 0} (B : Table K W) where
   -- the entries of the slots in use, the latest used first, are l, and their keys are distinct
@@ -100,9 +107,6 @@ module _ {K W : Type 0} (B : Table K W) (dec : Discrete K) {t : B .State} {l : L
       )
       go (new a) = let c = new-slot (r .ordered) in (c .0, rw (c .1, entries-take (entry B t), r .entries, without-absent dec k l a))
 
-  pub target-below : target (B .columns) t k < 16
-  target-below = target-rest .0
-
 -- a slot in use forgotten: the ranks close up, and the entries of the slots are as before
 module _ {K W : Type 0} (B : Table K W) (dec : Discrete K) {t : B .State} {l : List (K × W)} (r : Represents B t l) (s : ℕ) (h : s < 16)
     (e : inUse (rank B t) s ≡ true) where
@@ -150,3 +154,52 @@ module _ {K W I : Type 0} (B : Table K W) (fresh : I → W) (step : W → I → 
               );
           distinct = touch-distinct dec 16 fresh step l x (r .distinct);
         }
+
+-- ---- right behind a frame, whatever the table held
+
+module _ {K W : Type 0} (B : Table K W) (t : B .State) (z : B .Sized t) (k : K) (g : B .Legal k) where
+  -- the slot that the frame used
+  abbrev slot : ℕ
+  slot = target (B .columns) t k
+
+  -- whether a slot is found by the search for the key
+  abbrev has : B .State → ℕ → Bool
+  has u i = B .columns .matches u k i && inUse (rank B u) i
+
+  module _ (w : W) where
+    abbrev behind : B .State
+    behind = B .columns .store t slot k w
+
+    -- the slot has the key and is in use
+    slot-has : has behind slot ≡ true
+    slot-has =
+        let l = target-below B t k in
+        let y = B .stored t slot k w z g l in
+        and-yes (B .matched behind k slot (y .sized) g l .1 (sym (y .same .0)))
+        (lt-ltb (rank B behind slot) 16 (rw (y .uses slot l, eq-eqb slot slot refl) (omega arith)))
+
+    -- no other slot has come to have it or into use
+    other-had : (j : ℕ) → j < 16 → j ≢ slot → has behind j ≡ true → has t j ≡ true
+    other-had j l n e =
+        let y = B .stored t slot k w z g (target-below B t k) in
+        let b = and-both (B .columns .matches behind k j) (inUse (rank B behind) j) e in
+        let r = ltb-true (rank B behind j) 16 (b .1) in
+        let u : rank B behind j ≡ raised (rank B t slot) (rank B t j) = y .uses j l ∙ cond-no _ _ (ne-eqb j slot n) in
+        and-yes (B .matched t k j z g l .1 (B .matched behind k j (y .sized) g l .0 (b .0) ∙ y .other j n .0))
+        (lt-ltb (rank B t j) 16 (omega (arith, raised-least (rank B t slot) (rank B t j))))
+
+    slot-found : slotOf (B .columns) behind k ≡ At slot
+    slot-found =
+        first-again (has t) (has behind) 0 16 slot zero-le (target-below B t k) slot-has other-had (again (slotOf (B .columns) t k))
+      where
+        again : (f : Found) → slotOr (slotOr (newSlot (rank B t)) f) f ≡ slotOr (newSlot (rank B t)) f
+        again (At i) = refl
+        again Nothing = refl
+
+    value-found : valueOf (B .columns) behind k ≡ some w
+    value-found = ap (valueAt (B .columns) behind) slot-found ∙ ap some (B .stored t slot k w z g (target-below B t k) .same .1)
+
+  -- the table has of the frame's key what the frame left
+  pub value-behind : {I : Type 0} (fresh : I → W) (step : W → I → W) (i : I)
+      → valueOf (B .columns) (stepped (B .columns) fresh step t k i) k ≡ some (after fresh step (valueOf (B .columns) t k) i)
+  value-behind fresh step i = value-found (after fresh step (valueOf (B .columns) t k) i)

@@ -31,7 +31,7 @@ module _ {K W I : Type 0} (B : Table K W) (dec : Discrete K) (rule : EqualAges) 
   same-tables [] r a e g n = refl
   same-tables (x ∷ h) {t} {l} {f} {ticks} r a e g n =
       let s = target (B .columns) t (x .0) in
-      let b = target-below B dec r (x .0) (g .0) in
+      let b = target-below B t (x .0) in
       let p : targetByAge (B .columns) rule fresh step (t, ticks) (x .0) ≡ s =
       ap (λ (o : ℕ). slotOr o (slotOf (B .columns) t (x .0))) (sym (agreed a rule) ∙ sym (new-slot-same (rank B t) f e)) in
       ap (λ (u : B .State × Ticks). foldl byAge u h .0) (ap (λ (o : ℕ).

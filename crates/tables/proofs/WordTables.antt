@@ -12,12 +12,14 @@ use borrow.Author.Tests.{lt-ltb, le-ltb, eq-eqb, eqb-true, ltb-true}
 use lib.Dec.{eqb, ltb}
 use lib.ListN.{length, getD, set, length-set, length-append, List·getD-append}
 use lib.Seq.{getD-append-add, getD-set-same, getD-set-other, ext-getD}
-use Rattle.records.proofs.Booleans.{cond-yes, cond-no, and-yes}
+use Rattle.records.proofs.Booleans.{cond-yes, cond-no, and-yes, and-both}
 use Rattle.records.proofs.NameLaws.{length-tabulate, tabulate-at, tabulate-same, agree-all, length-overwritten, overwritten-in, overwritten-out}
-use Rattle.records.proofs.SearchLaws.{Searched, hit, miss, searched}
+use Rattle.records.proofs.SearchLaws.{Searched, hit, miss, searched, found-has, first-again}
 use Rattle.records.specs.declared.search.Found.{Found}
+use Rattle.records.specs.declared.search.Found.the-variants.{At}
 use Rattle.records.specs.Octets.{tabulate, overwritten}
 use Rattle.records.specs.Remembered.{without, after}
+use Rattle.records.specs.Search.{slotOr}
 use Rattle.tables.proofs.NamedLaws.{name-decides, has-key}
 use Rattle.tables.proofs.OrderLaws.{rank-same, free-rank, used-only, used-rank, forgotten-only, forgotten-rank}
 use Rattle.tables.proofs.RankTable.{Table, Represents, represents-forgotten}
@@ -278,6 +280,25 @@ module _ {K W : Type 0} (keys : KeyColumns K) (L : KeyColumnLaws keys) (encoding
       o
       ∙ ap (λ (x : Entered). valueSet (x .table) (keys .values) (x .place .slot) (encoding .words w)) e
       ∙ ap (λ (x : W). valueSet (entered keys t k .table) (keys .values) (entered keys t k .place .slot) (encoding .words x)) v
+
+-- ---- a key found, where only values were changed
+
+module _ {K : Type 0} (keys : KeyColumns K) (L : KeyColumnLaws keys) (k : K) (g : L .Legal k) where
+  -- whether a slot in use has a key goes by the ranks and the key columns
+  has-kept : (t u : List ℕ) → keys .values ≤ length t → keys .values ≤ length u → ((x : ℕ) → x < keys .values → getD u x 0 ≡ getD t x 0)
+      → (j : ℕ) → j < 16 → keys .matches t k j && inUse (rankOf t) j ≡ true → keys .matches u k j && inUse (rankOf u) j ≡ true
+  has-kept t u z y same j l e =
+      let b = and-both (keys .matches t k j) (inUse (rankOf t) j) e in
+      and-yes (L .matched u k j y g l .1 (L .matched t k j z g l .0 (b .0) ∙ sym (L .reads t u j (λ x m n. same x n))))
+      (ap (λ (r : ℕ). ltb r 16) (rank-same t u j l (λ x m. same x (omega (arith, L .behind)))) ∙ b .1)
+
+  pub found-kept : (t u : List ℕ) → keys .values ≤ length t → keys .values ≤ length u → ((x : ℕ) → x < keys .values → getD u x 0 ≡ getD t x 0)
+      → {i : ℕ} → found keys t k ≡ At i → found keys u k ≡ At i
+  unfolding found
+  found-kept t u z y same {i} e =
+      let b = found-has (λ j. keys .matches t k j && inUse (rankOf t) j) 16 refl e in
+      first-again (λ j. keys .matches t k j && inUse (rankOf t) j) (λ j. keys .matches u k j && inUse (rankOf u) j) 0 16 i (omega arith) (b .0)
+      (has-kept t u z y same i (b .0) (b .1)) (λ j l n. has-kept u t y z (λ x m. sym (same x m)) j l) (ap (slotOr i) e)
 
 -- ---- by number
 
