@@ -26,7 +26,7 @@ use Rattle.inspection.specs.Address.{addressOf}
 use Rattle.inspection.specs.Calls.{Setting, serviceMask, readOnly, newMmsRule, newGoosePublisher, newSvPublisher, blockTest, maxSmpCntGap}
 use Rattle.inspection.specs.Calls.{schedule, maxForwardJump, Call, setting, mms, goose, sv, rawSv, reset, settingMade, called, afterCalls}
 use Rattle.inspection.specs.CallTheorems.{SameRules, InspectionsKeepRules, AtMost16, RuleCountsHold, alertCount}
-use Rattle.inspection.specs.CallTheorems.{ResultsNotTruncated, framesOf, unlessReset, countFrom, TotalsCount, nextNumber, alertNumbers, consecutive}
+use Rattle.inspection.specs.CallTheorems.{framesOf, unlessReset, countFrom, TotalsCount, nextNumber, alertNumbers, consecutive}
 use Rattle.inspection.specs.CallTheorems.{AlertNumbersConsecutive, mmsRuleError, goosePublisherError, svPublisherError, rawFrameError}
 use Rattle.inspection.specs.CallTheorems.{RefusalNumbers, RawRefusals, RefusedChangesNothing, RefusedLeftOut, UnreadableNotAllowed}
 use Rattle.inspection.specs.InspectMms.{inspectMms}
@@ -35,9 +35,6 @@ use Rattle.inspection.specs.InspectSv.{inspectSv, rawInspected, inspectR
 use Rattle.inspection.proofs.CallLaws.{mms-inspects, goose-inspects, sv-inspects, raw-inspects, stepped, called-sized}
 use Rattle.inspection.proofs.ReportLaws.{saturating, wrapping}
 use Rattle.inspection.proofs.RuleLaws.{not-added, mms-count, goose-count, sv-count}
-
-pub results-not-truncated : ResultsNotTruncated
-results-not-truncated m = (λ f. mms-inspects m f .few, λ f. goose-inspects m f .few, λ f. sv-inspects m f .few, λ octets time. raw-inspects m octets time .few)
 
 -- ---- settings and rules
 

@@ -6,9 +6,6 @@ use mathlib.Core.Path.{_≡_}
 use lib.ListN.{length, take}
 use Rattle.records.specs.declared.alert.CodedAlert.{CodedAlert}
 use Rattle.records.specs.declared.error.VsError.{VsError}
-use Rattle.records.specs.declared.frame.MmsFrame.{MmsFrame}
-use Rattle.records.specs.declared.frame.GooseFrame.{GooseFrame}
-use Rattle.records.specs.declared.frame.SvFrame.{SvFrame}
 use Rattle.records.specs.declared.result.InspectResult.{InspectResult}
 use Rattle.records.specs.Alert.{sourceSv}
 use Rattle.records.specs.Result.{cleanResult}
@@ -89,15 +86,6 @@ pub record AtMostThree (r : InspectResult) : Type 0 where
   pub counted : length (alertsIn r) ≡ r .«alert_count»
   pub few : r .«alert_count» ≤ 3
   pub whole : r .«alerts_truncated» ≡ false
-
--- "up to 4 alerts with codes, and a truncated mark": no inspection finds a fourth
-abbrev pub ResultsNotTruncated : Type 0
-ResultsNotTruncated =
-    (m : Monitor)
-    → ((f : MmsFrame) → AtMostThree (inspectMms m f .answer))
-    × ((f : GooseFrame) → AtMostThree (inspectGoose m f .answer))
-    × ((f : SvFrame) → AtMostThree (inspectSv m f .answer))
-    × ((octets : List ℕ) (time : ℕ) → AtMostThree (inspectRawSv m octets time .answer .result))
 
 -- ---- totals
 

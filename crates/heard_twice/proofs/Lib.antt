@@ -1,0 +1,4 @@
+pub mod SecondCopy
+pub mod RawCopies
+pub mod HeardTwiceHolds
+pub mod HeardTwiceInstances
