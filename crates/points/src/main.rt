@@ -1,5 +1,6 @@
 // Runs the reference points of document 01, the published FNV-1a vectors and a few inspections, and writes what each gives;
 // `stdout` has what each must give (docs/DECISIONS.md says where that is from).
+mod copy_points;
 mod frame_points;
 mod monitor_points;
 
@@ -105,4 +106,5 @@ fn main() {
     ended_hash_points();
     frame_points::write_frames();
     monitor_points::write_inspections();
+    copy_points::write_copies();
 }

@@ -17,7 +17,7 @@ use records::service::MmsServiceType;
 use sv_frame::sv::Parsed;
 
 // A label and a number, within a line.
-fn write_part(label: &[u8], n: u64) {
+pub fn write_part(label: &[u8], n: u64) {
     io::write_all(STDOUT_FILENO, label);
     io::print_decimal(STDOUT_FILENO, n);
 }
@@ -42,7 +42,7 @@ fn write_codes(result: InspectResult) {
 }
 
 // The verdict, which ends a line.
-fn write_verdict(result: InspectResult) {
+pub fn write_verdict(result: InspectResult) {
     if result.allowed {
         io::write_all(STDOUT_FILENO, b": allowed");
     } else {
@@ -53,7 +53,7 @@ fn write_verdict(result: InspectResult) {
 }
 
 // A frame of the stream M1.
-fn sv_frame(count: u16) -> SvFrame {
+pub fn sv_frame(count: u16) -> SvFrame {
     let mut f = SvFrame::default();
     f.svid[0] = b'M';
     f.svid[1] = b'1';
@@ -148,7 +148,7 @@ fn raw_points() {
 }
 
 // A frame of the control block g.
-fn goose_frame(st_num: u32, sq_num: u32, seconds: u32) -> GooseFrame {
+pub fn goose_frame(st_num: u32, sq_num: u32, seconds: u32) -> GooseFrame {
     let mut f = GooseFrame::default();
     f.go_cb_ref[0] = b'g';
     f.go_cb_ref_len = 1;
