@@ -11,6 +11,7 @@ import subprocess
 import sys
 import time
 
+import copies
 import malformed
 import scripts
 import tally
@@ -145,6 +146,27 @@ def compare_calls(programs, counted, folder, seed, many, counts):
     return True
 
 
+# Compares scripts in which frames are heard twice, and answers whether there is no difference and each second copy is refused as request 1 says.
+def compare_copies(programs, folder, seed, many):
+    heard = 0
+    source = copies.lines(seed)
+    for size in [PIECE] * (many // PIECE) + [many % PIECE]:
+        calls, second = map(list, zip(*itertools.islice(source, size))) if size else ([], [])
+        script = "".join(calls).encode()
+        ours, theirs = (lines_of(program, script) for program in programs)
+        if first_unequal(ours, theirs):
+            print("DIFFERENT at a frame heard twice:")
+            show_piece(programs, calls, first_unequal(ours, theirs)[0], folder)
+            return False
+        for at in (at for at in range(1, size) if second[at]):
+            if not copies.is_refused(calls[at], theirs[at - 1], theirs[at]):
+                print(f"FAILED: the second copy {calls[at]} is answered {shown(theirs[at])}, behind {shown(theirs[at - 1])}")
+                return False
+            heard += 1
+    print(f"{heard} frames heard twice in {many} calls, 0 differences, each second copy refused as request 1 says", flush=True)
+    return True
+
+
 # Why the last line of some answers says that a line is malformed; nothing, if it does not.
 def why_malformed(lines):
     found = re.fullmatch(rb"malformed line \d+: (.*)", lines[-3]) if len(lines) > 2 else None
@@ -175,7 +197,9 @@ def main(ours, theirs, counted, folder, seed, many):
     counts = tally.empty()
     counts.update({("malformed line", why): 0 for why in tally.MALFORMED})
     programs = (ours, theirs)
-    same = compare_malformed(programs, folder, counts) and compare_calls(programs, counted, folder, seed, int(many), counts)
+    many = int(many)
+    same = compare_malformed(programs, folder, counts) and compare_copies(programs, folder, seed, many // 10)
+    same = same and compare_calls(programs, counted, folder, seed, many, counts)
     if same:
         tally.show(counts)
         tally.save(counts, os.path.join(folder, "tally.json"))
