@@ -1,7 +1,8 @@
 #!/usr/bin/env python3
 # Compares our replay with the Rust driver on scripts made from a seed: compare.py OURS THEIRS COUNTED DIR SEED CALLS
-# The three are programs; COUNTED is the driver over the counted copy of the Rust, for the tally. Scripts are made in pieces in DIR, which
-# keeps the tally as tally.json and, after a difference, the calls that show it as difference.script.
+# The three are programs; COUNTED is the driver over the counted copy of the Rust, for the tally. Besides CALLS calls a tenth as many are compared in
+# which frames are heard twice. Scripts are made in pieces in DIR, which keeps the tally as tally.json and, after a difference, the calls that show it as
+# difference.script.
 # Exit status: 0 no difference, 1 a difference.
 import filecmp
 import itertools
@@ -101,9 +102,8 @@ def show_piece(programs, calls, number, folder):
     show(programs, "".join(short).encode(), os.path.join(folder, "difference.script"))
 
 
-# The pieces of the script of a seed.
-def pieces(seed, many):
-    source = scripts.lines(seed)
+# So many lines of a script without end, in pieces.
+def pieces(source, many):
     while many > 0:
         yield list(itertools.islice(source, min(many, PIECE)))
         many -= PIECE
@@ -136,7 +136,7 @@ def compare_piece(programs, counted, folder, calls, first, counts):
 # Compares the script of a seed, and answers whether no difference was found.
 def compare_calls(programs, counted, folder, seed, many, counts):
     done, took = 0, [0, 0]
-    for calls in pieces(seed, many):
+    for calls in pieces(scripts.lines(seed), many):
         times = compare_piece(programs, counted, folder, calls, done + 1, counts)
         if times is None:
             return False
@@ -149,18 +149,17 @@ def compare_calls(programs, counted, folder, seed, many, counts):
 # Compares scripts in which frames are heard twice, and answers whether there is no difference and each second copy is refused as request 1 says.
 def compare_copies(programs, folder, seed, many):
     heard = 0
-    source = copies.lines(seed)
-    for size in [PIECE] * (many // PIECE) + [many % PIECE]:
-        calls, second = map(list, zip(*itertools.islice(source, size))) if size else ([], [])
-        script = "".join(calls).encode()
-        ours, theirs = (lines_of(program, script) for program in programs)
-        if first_unequal(ours, theirs):
+    for piece in pieces(copies.lines(seed), many):
+        calls, second = zip(*piece)
+        ours, theirs = (lines_of(program, "".join(calls).encode()) for program in programs)
+        unequal = first_unequal(ours, theirs)
+        if unequal:
             print("DIFFERENT at a frame heard twice:")
-            show_piece(programs, calls, first_unequal(ours, theirs)[0], folder)
+            show_piece(programs, list(calls), unequal[0], folder)
             return False
-        for at in (at for at in range(1, size) if second[at]):
+        for at in (at for at in range(1, len(calls)) if second[at]):
             if not copies.is_refused(calls[at], theirs[at - 1], theirs[at]):
-                print(f"FAILED: the second copy {calls[at]} is answered {shown(theirs[at])}, behind {shown(theirs[at - 1])}")
+                print(f"FAILED: the second copy {calls[at]}is answered {shown(theirs[at])}\nafter {shown(theirs[at - 1])}")
                 return False
             heard += 1
     print(f"{heard} frames heard twice in {many} calls, 0 differences, each second copy refused as request 1 says", flush=True)

@@ -1,7 +1,7 @@
 -- Laws of a frame that comes twice with nothing between, whatever the table held: the second time its count or numbers are a replay, its clock does
 -- not alert, and its control block is bound to another address exactly where it was the first time.
 use Prim.Native.Nat.{ℕ, _+_}
-use mathlib.Core.Bool.{Bool, true, false, _&&_, _||_, not, cond}
+use mathlib.Core.Bool.{Bool, true, false, _&&_, _||_, not, cond, false≢true}
 use mathlib.Core.List.{List}
 use mathlib.Core.Option.{Option, none, some}
 use mathlib.Core.Path.{_≡_, refl, sym, ap, _∙_}
@@ -14,7 +14,7 @@ use Rattle.records.specs.declared.search.Found.{Found}
 use Rattle.records.specs.declared.search.Found.the-variants.{At, Nothing}
 use Rattle.records.specs.Remembered.{after}
 use Rattle.tables.proofs.PlaceLaws.{found-key}
-use Rattle.tables.proofs.RankTable.{value-behind}
+use Rattle.tables.proofs.RankTable.{value-left}
 use Rattle.tables.proofs.WordTables.{oneLaws, twoLaws, threeLaws, namedLaws, namedTable, numberedTable, found-kept, word-at, word-in, word-out, length-word}
 use Rattle.tables.specs.Column.{wordOf, wordSet}
 use Rattle.tables.specs.Named.{named}
@@ -34,10 +34,10 @@ use Rattle.checks.proofs.TimeFieldLaws.{latest, alert-same}
 replay-is : (o : SvSeqOutcome) → isReplay o ≡ true → o ≡ Replay
 unfolding isReplay
 replay-is Replay e = refl
-replay-is FirstSeen e = let z : _≡_ {A = ℕ} 0 1 = cc in absurd (omega arith)
-replay-is (ForwardGap gap) e = let z : _≡_ {A = ℕ} 0 1 = cc in absurd (omega arith)
-replay-is CycleWrap e = let z : _≡_ {A = ℕ} 0 1 = cc in absurd (omega arith)
-replay-is (SuspiciousSmpGap gap) e = let z : _≡_ {A = ℕ} 0 1 = cc in absurd (omega arith)
+replay-is FirstSeen e = absurd (false≢true e)
+replay-is (ForwardGap gap) e = absurd (false≢true e)
+replay-is CycleWrap e = absurd (false≢true e)
+replay-is (SuspiciousSmpGap gap) e = absurd (false≢true e)
 
 -- a count is a replay of what it leaves
 count-replays : (o : Option ℕ) (n : ℕ) → countOutcome (after (λ i. i) keptCount o n) n ≡ Replay
@@ -51,7 +51,7 @@ count-replays (some c) n = go (isReplay (countOutcome c n)) refl
 pub count-again : (t svid : List ℕ) (n : ℕ) → length t ≡ 178 → length svid ≡ 10 → svChecked (svChecked t svid n .table) svid n .outcome ≡ Replay
 unfolding svChecked
 count-again t svid n z g =
-    ap (λ x. svOutcome x n) (value-behind (namedTable oneLaws) t z svid g (λ i. i) keptCount n) ∙ count-replays (valueOf svStreams t svid) n
+    ap (λ x. svOutcome x n) (value-left (namedTable oneLaws) t z svid g (λ i. i) keptCount n) ∙ count-replays (valueOf svStreams t svid) n
 
 -- ---- GOOSE streams
 
@@ -75,7 +75,7 @@ pub numbers-again : (t key : List ℕ) (numbers : ℕ × ℕ) (time time′ : �
     → gooseChecked (gooseChecked t key (numbers, time) .table) key (numbers, time′) .replay ≡ true
 unfolding gooseChecked
 numbers-again t key numbers time time′ z g =
-    ap (λ x. gooseReplay x numbers) (value-behind (namedTable threeLaws) t z key g (λ i. i) keptNumbers (numbers, time))
+    ap (λ x. gooseReplay x numbers) (value-left (namedTable threeLaws) t z key g (λ i. i) keptNumbers (numbers, time))
     ∙ numbers-replay (valueOf gooseStreams t key) (numbers, time)
 
 -- ---- clocks
@@ -98,7 +98,7 @@ clock-again t limit address pair z = go (hasClock pair)
     go : (present : Bool) → checkedIf present (checkedIf present t limit address pair .table) limit address pair .alert ≡ false
     go true =
         ap (λ x. clockAlert limit x pair)
-        (value-behind (numberedTable twoLaws) t z address tt (λ i. i) (λ kept i. i) pair ∙ ap some (sym (latest pair (valueOf clocks t address))))
+        (value-left (numberedTable twoLaws) t z address tt (λ i. i) (λ kept i. i) pair ∙ ap some (sym (latest pair (valueOf clocks t address))))
         ∙ same-pair
     go false = refl
 

@@ -28,7 +28,7 @@ use Rattle.demand3.proofs.AnswerLaws.{answerFrom, reported-answer}
 use Rattle.heard_twice.specs.HeardTwice.{gooseAt, svAt, Delivered, goose, sv, rawSv, rawResult, firstAnswer, secondAnswer, replayCode, refusedAgain}
 use Rattle.heard_twice.specs.HeardTwice.{HeardTwiceOn, HeardTwice, HeardTwiceOnWords, AtMostThreeAlerts}
 use Rattle.heard_twice.proofs.RawCopies.{Reread, frame, refused, reread}
-use Rattle.heard_twice.proofs.SecondCopy.{goose-again, sv-again}
+use Rattle.heard_twice.proofs.SecondCopy.{Again, goose-again, sv-again}
 
 -- ---- decoded frames
 
@@ -46,22 +46,29 @@ sv-answer m f =
     (let k = sv-kept (countedSv m) (svRead f) in omega (arith, k .few))
 
 module _ (m : Monitor) (z : Sized m) (time time′ : ℕ) where
-  goose-second : (f : GooseFrame) → secondAnswer m (goose f) time time′ ≡ refusedAgain 3 (firstAnswer m (goose f) time)
+  -- the checks of the second copy get the monitor that the first left, with the frame counted
+  goose-checked : (f : GooseFrame) → Again 3 (gooseTest (countedGoose m) (gooseRead (gooseAt f time)) .answer)
+      (gooseTest (countedGoose (inspectGoose m (gooseAt f time) .monitor)) (gooseRead (gooseAt f time′)) .answer)
   unfolding inspectGoose reported withAlerts frameCounted
+  goose-checked f =
+      goose-again (countedGoose m) (countedGoose (inspectGoose m (gooseAt f time) .monitor) .totals) (z .«cb_reservations») (z .«time_trackers»)
+      (gooseRead (gooseAt f time)) time′ (z .«goose_seq») (key-words 1 (controlBlock f))
+
+  goose-second : (f : GooseFrame) → secondAnswer m (goose f) time time′ ≡ refusedAgain 3 (firstAnswer m (goose f) time)
   goose-second f =
-      let left = inspectGoose m (gooseAt f time) .monitor in
-      goose-answer left (gooseAt f time′)
-      ∙ goose-again (countedGoose m) (countedGoose left .totals) (z .«cb_reservations») (z .«time_trackers») (gooseRead (gooseAt f time)) time′
-      (z .«goose_seq») (key-words 1 (controlBlock f))
+      goose-answer (inspectGoose m (gooseAt f time) .monitor) (gooseAt f time′) ∙ goose-checked f
       ∙ ap (refusedAgain 3) (sym (goose-answer m (gooseAt f time)))
 
-  sv-second : (f : SvFrame) → secondAnswer m (sv f) time time′ ≡ refusedAgain 26 (firstAnswer m (sv f) time)
+  sv-checked : (f : SvFrame) → Again 26 (svBinding (countedSv m) (svRead f) .answer)
+      (svBinding (countedSv (inspectSv m (svAt f time) .monitor)) (svRead f) .answer)
   unfolding inspectSv reported withAlerts frameCounted
+  sv-checked f =
+      sv-again (countedSv m) (countedSv (inspectSv m (svAt f time) .monitor) .totals) (z .«cb_reservations») (z .«time_trackers»)
+      (svRead f) (z .«sv_seq») (key-words 0 (svidOf f)) (key-words 0 (datasetOf f))
+
+  sv-second : (f : SvFrame) → secondAnswer m (sv f) time time′ ≡ refusedAgain 26 (firstAnswer m (sv f) time)
   sv-second f =
-      let left = inspectSv m (svAt f time) .monitor in
-      sv-answer left (svAt f time′)
-      ∙ sv-again (countedSv m) (countedSv left .totals) (z .«cb_reservations») (z .«time_trackers») (svRead f)
-      (z .«sv_seq») (key-words 0 (svidOf f)) (key-words 0 (datasetOf f))
+      sv-answer (inspectSv m (svAt f time) .monitor) (svAt f time′) ∙ sv-checked f
       ∙ ap (refusedAgain 26) (sym (sv-answer m (svAt f time)))
 
 -- ---- raw frames

@@ -6,7 +6,7 @@ use mathlib.Core.Path.{_≡_, refl, sym, ap, _∙_}
 use lib.Dec.{eqb, ltb}
 use lib.ListN.{length, getD}
 use Rattle.records.specs.Alert.{codeNumber, denies}
-use Rattle.records.proofs.Booleans.{cond-no, cond-holds, and-false}
+use Rattle.records.proofs.Booleans.{cond-no, cond-holds}
 use Rattle.checks.specs.declared.sv_publisher.PublisherMatch.{PublisherMatch}
 use Rattle.checks.specs.declared.sv_publisher.PublisherMatch.the-variants.{NotRegistered, WrongAddress, Fits}
 use Rattle.checks.specs.declared.sv_seq.SvSeqOutcome.{SvSeqOutcome}
@@ -27,7 +27,7 @@ use Rattle.inspection.specs.InspectSv.{SvRead, rateFindings, countFindings, svT
 use Rattle.inspection.specs.Report.{Finding, Checked, findingOf, findingsOf, clockFindings, ended, permitted}
 use Rattle.inspection.proofs.CheckLaws.{fixed, goose-kept, sv-kept}
 use Rattle.demand3.proofs.AnswerLaws.{answerFrom}
-use Rattle.heard_twice.specs.HeardTwice.{firstCode, isBefore, endedBefore, refusedAgain}
+use Rattle.heard_twice.specs.HeardTwice.{beforeStream, refusedBefore, refusedAgain}
 
 -- ---- answers to what the checks find
 
@@ -37,20 +37,19 @@ Again replay first second = answerFrom true [] second ≡ refusedAgain replay (a
 
 -- findings of a frame that reached the check of its stream
 abbrev Reached : List Finding → Type 0
-Reached first = endedBefore (answerFrom true [] first) ≡ false
+Reached first = refusedBefore (answerFrom true [] first) ≡ false
 
 again-reached : (replay : ℕ) (first second : List Finding) → Reached first → answerFrom true [] second ≡ (false, replay ∷ []) → Again replay first second
 again-reached replay first second r e = e ∙ sym (ap (λ (codes : List ℕ). (false, codes)) (cond-no _ _ r))
 
--- the first finding has the first code
-first-code : (allowed : Bool) (code : ℕ) (codes : List ℕ) (rest : List Finding) → firstCode (answerFrom allowed (code ∷ codes) rest) ≡ code
-first-code allowed code codes [] = refl
-first-code allowed code codes (a ∷ rest) = first-code _ code (codes ++ codeNumber (a .code) ∷ []) rest
+-- the first code decides
+first-decides : (allowed : Bool) (code : ℕ) (codes : List ℕ) (rest : List Finding)
+    → refusedBefore (answerFrom allowed (code ∷ codes) rest) ≡ beforeStream code
+first-decides allowed code codes [] = refl
+first-decides allowed code codes (a ∷ rest) = first-decides _ code (codes ++ codeNumber (a .code) ∷ []) rest
 
-reached-by : (a : Finding) (rest : List Finding) → isBefore (codeNumber (a .code)) ≡ false → Reached (a ∷ rest)
-reached-by a rest e =
-    let r = answerFrom true [] (a ∷ rest) in
-    ap (λ (b : Bool). not (r .0) && b) (ap isBefore (first-code _ (codeNumber (a .code)) [] rest) ∙ e) ∙ and-false (not (r .0))
+reached-by : (a : Finding) (rest : List Finding) → beforeStream (codeNumber (a .code)) ≡ false → Reached (a ∷ rest)
+reached-by a rest e = first-decides _ (codeNumber (a .code)) [] rest ∙ e
 
 -- a clock alert comes first
 clock-reached : (alert : Bool) (rest : List Finding) → Reached rest → Reached (clockFindings alert ++ rest)
@@ -105,29 +104,6 @@ goose-by : (m : Monitor) (f : GooseRead) {b u : Bool} → blocked m (f .numbers 
 unfolding gooseTest gooseAllowed
 goose-by m f p q = λ i. gooseBy (p i) (q i) m f
 
--- what the publishers say of an svID
-data Ruled : RuleCheck → Type 0 where
-  wrong-address : Ruled (Refused WrongIed)
-  unknown : Ruled (Refused UnknownSvid)
-  rated : (rate : ℕ) → Ruled (Rate rate)
-
-ruled : (m : Monitor) (address : ℕ) (svid : List ℕ) → Ruled (svRule m address svid)
-unfolding svRule
-ruled m address svid = go (svPublisher (m .«sv_publishers») address svid)
-  where
-    go : (p : PublisherMatch) → Ruled (svMatched (strictMode m) (m .«sv_publishers») p)
-    go WrongAddress = wrong-address
-    go NotRegistered = cond-holds Ruled (strictMode m && ltb 0 (svPublisherCount (m .«sv_publishers»))) unknown (rated 0)
-    go (Fits i) = rated _
-
--- the checks by that
-abbrev svBy : RuleCheck → Monitor → SvRead → Checked
-svBy rule m f = permitted m (λ rate. svReservation f rate m) rule
-
-sv-by : (m : Monitor) (f : SvRead) {rule : RuleCheck} → svRule m (f .numbers .address) (f .svid) ≡ rule → svBinding m f ≡ svBy rule m f
-unfolding svBinding
-sv-by m f p = λ i. svBy (p i) m f
-
 module _ (m : Monitor) (totals : List ℕ) (cb : length (m .«cb_reservations») ≡ 210) (clocks : length (m .«time_trackers») ≡ 50) where
   module _ (n : GooseNumbers) (time : ℕ) (streams : length (m .«goose_seq») ≡ 210) where
     goose-reserved : (key : List ℕ) → length key ≡ 10
@@ -178,6 +154,32 @@ module _ (m : Monitor) (totals : List ℕ) (cb : length (m .«cb_reservations»)
         go false true = refl
         go false false = goose-reserved (f .numbers) time streams (f .reservation) g
 
+-- ---- SV
+
+-- what the publishers say of an svID
+data Ruled : RuleCheck → Type 0 where
+  wrong-address : Ruled (Refused WrongIed)
+  unknown : Ruled (Refused UnknownSvid)
+  rated : (rate : ℕ) → Ruled (Rate rate)
+
+ruled : (m : Monitor) (address : ℕ) (svid : List ℕ) → Ruled (svRule m address svid)
+unfolding svRule
+ruled m address svid = go (svPublisher (m .«sv_publishers») address svid)
+  where
+    go : (p : PublisherMatch) → Ruled (svMatched (strictMode m) (m .«sv_publishers») p)
+    go WrongAddress = wrong-address
+    go NotRegistered = cond-holds Ruled (strictMode m && ltb 0 (svPublisherCount (m .«sv_publishers»))) unknown (rated 0)
+    go (Fits i) = rated _
+
+-- the checks by that
+abbrev svBy : RuleCheck → Monitor → SvRead → Checked
+svBy rule m f = permitted m (λ rate. svReservation f rate m) rule
+
+sv-by : (m : Monitor) (f : SvRead) {rule : RuleCheck} → svRule m (f .numbers .address) (f .svid) ≡ rule → svBinding m f ≡ svBy rule m f
+unfolding svBinding
+sv-by m f p = λ i. svBy (p i) m f
+
+module _ (m : Monitor) (totals : List ℕ) (cb : length (m .«cb_reservations») ≡ 210) (clocks : length (m .«time_trackers») ≡ 50) where
   module _ (f : SvRead) (streams : length (m .«sv_seq») ≡ 178) (k : length (f .svid) ≡ 10) (g : length (f .dataset) ≡ 10) where
     sv-reserved : (rate : ℕ) → Again 26 (svReservation f rate m .answer) (svReservation f rate (withTotals (svReservation f rate m .monitor) totals) .answer)
     unfolding svReservation cbOn svTimeField timeFieldOn svSeqOn countFindings denies

@@ -2,7 +2,7 @@
 -- inspected twice in succession, with no call between, is refused the second time. An inspection gives at most three alerts and never sets the
 -- truncated mark.
 use Prim.Native.Nat.{ℕ}
-use mathlib.Core.Bool.{Bool, false, _&&_, _||_, not, cond}
+use mathlib.Core.Bool.{Bool, false, _||_, not, cond}
 use mathlib.Core.List.{List, [], _∷_}
 use mathlib.Core.Path.{_≡_}
 use lib.Dec.{eqb}
@@ -24,7 +24,7 @@ use Rattle.demand3.specs.Demand3.{Answer, answerOf}
 
 -- ---- copies of a frame
 
--- a decoded frame that the recorder hears at a time; copies are equal but for this time
+-- a decoded frame as the recorder hears it at a time: only `timestamp_us` is replaced, and the frame's own time t stays. Copies differ in nothing else
 abbrev pub gooseAt : GooseFrame → ℕ → GooseFrame
 gooseAt f time =
     record {
@@ -60,7 +60,7 @@ pub data Delivered : Type 0 where
   sv : SvFrame → Delivered
   rawSv : List ℕ → Delivered
 
--- the result of a raw frame's inspection; of an unreadable frame it is refused and has no alert
+-- a raw frame's result; that of an unreadable frame is refused and has no alert
 abbrev pub rawResult : After RawSv → After InspectResult
 rawResult c = record { monitor = c .monitor; answer = c .answer .result }
 
@@ -70,14 +70,14 @@ heard m (goose f) time = inspectGoose m (gooseAt f time)
 heard m (sv f) time = inspectSv m (svAt f time)
 heard m (rawSv octets) time = rawResult (inspectRawSv m octets time)
 
--- the answer to the first copy, and to the second, each heard at its own time: the allowed flag, and the codes in order
+-- the answers, allowed flag and codes in order: to the first copy, and to the second, on the monitor that the first left, with no call between
 abbrev pub firstAnswer : Monitor → Delivered → ℕ → Answer
 firstAnswer m x time = answerOf (heard m x time .answer)
 
 abbrev pub secondAnswer : Monitor → Delivered → ℕ → ℕ → Answer
 secondAnswer m x time time′ = answerOf (heard (heard m x time .monitor) x time′ .answer)
 
--- ---- what the second copy is answered
+-- ---- the answer to the second copy
 
 -- the code of a replay (01, refusals 13 and 18)
 abbrev pub replayCode : Delivered → ℕ
@@ -85,26 +85,21 @@ replayCode (goose f) = 3
 replayCode (sv f) = 26
 replayCode (rawSv octets) = 26
 
--- the first code of an answer, 0 where there is none
-abbrev pub firstCode : Answer → ℕ
-firstCode (allowed, []) = 0
-firstCode (allowed, code ∷ codes) = code
+-- the codes of 01's refusals before the check of the stream: 6 (refusals 9, 10, 15), 28 (14) and 29 (11, 16). No check from the clock on gives them
+abbrev pub beforeStream : ℕ → Bool
+beforeStream code = eqb code 6 || eqb code 28 || eqb code 29
 
--- 01's refusals before the check of the stream: code 6 (refusals 9, 10, 15), 28 (14), 29 (11, 16), or none for an unreadable frame (3). A refusal at that
--- check or behind it has another code
-abbrev pub isBefore : ℕ → Bool
-isBefore code = eqb code 0 || eqb code 6 || eqb code 28 || eqb code 29
+-- whether a first copy of this answer was refused before the check of its stream; an unreadable frame (refusal 3) is refused without a code
+abbrev pub refusedBefore : Answer → Bool
+refusedBefore (allowed, []) = not allowed
+refusedBefore (allowed, code ∷ codes) = beforeStream code
 
--- whether the first copy was refused before the check of its stream
-abbrev pub endedBefore : Answer → Bool
-endedBefore first = not (first .0) && isBefore (firstCode first)
-
--- the second copy is refused: with the codes of the first where that did not reach the check of its stream, otherwise with replay alone. A first copy
--- that reaches the check and is not stored there (request 13: code 44) would be a case of its own here
+-- the second copy is refused: with the codes of the first where that was refused before the check of its stream, otherwise with replay alone. An outsider
+-- that is not stored (request 13, code 44) may pass twice: it would be a case here, and excepted from `second-refused`
 abbrev pub refusedAgain : ℕ → Answer → Answer
-refusedAgain replay first = (false, cond (endedBefore first) (first .1) (replay ∷ []))
+refusedAgain replay first = (false, cond (refusedBefore first) (first .1) (replay ∷ []))
 
--- both sentences, for every frame, whatever its fields or octets, and every two times
+-- for every frame, whatever its fields or octets, and every two times: the request's words, and the whole answer, from which they follow
 pub record HeardTwiceOn (m : Monitor) : Type 0 where
   pub second-refused : (x : Delivered) (time time′ : ℕ) → secondAnswer m x time time′ .0 ≡ false
   pub second-answer : (x : Delivered) (time time′ : ℕ) → secondAnswer m x time time′ ≡ refusedAgain (replayCode x) (firstAnswer m x time)
@@ -121,11 +116,11 @@ pub record Reachable (m : Monitor) : Type 0 where
 abbrev pub HeardTwice : Type 0
 HeardTwice = (m : Monitor) → Reachable m → HeardTwiceOn m
 
--- and for a monitor of any 1148 words, whether or not calls lead to it
+-- and for any 1148 words that a host holds as a monitor, whether or not calls lead to them
 abbrev pub HeardTwiceOnWords : Type 0
 HeardTwiceOnWords = (words : List ℕ) → length words ≡ 1148 → HeardTwiceOn (monitorOf words)
 
--- an inspection of any kind gives at most three alerts and drops none, from every monitor, reachable or not
+-- from every monitor, reachable or not, an inspection of any kind gives at most three alerts, as many as its count says, and never sets the truncated mark
 abbrev pub AtMostThreeAlerts : Type 0
 AtMostThreeAlerts =
     (m : Monitor)

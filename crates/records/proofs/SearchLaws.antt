@@ -74,7 +74,7 @@ unfolding firstFrom
 first-same f g i zero e = refl
 first-same f g i (suc n) e = rw (e i (omega arith), first-same f g (suc i) n (λ j l. e j (omega arith)))
 
--- a search again, behind which the slot that was found, or this one where none was, passes the test, and no other that failed it: this one is found
+-- a second search: slot s, which the first found or which stands for none found, passes now, and any other slot that passes now passed before; so it finds s
 pub first-again : (f g : ℕ → Bool) (i n s : ℕ) → i ≤ s → s < i + n → g s ≡ true → ((j : ℕ) → j < i + n → j ≢ s → g j ≡ true → f j ≡ true)
     → slotOr s (firstFrom f i n) ≡ s → firstFrom g i n ≡ At s
 unfolding firstFrom

@@ -155,7 +155,7 @@ module _ {K W I : Type 0} (B : Table K W) (fresh : I → W) (step : W → I → 
           distinct = touch-distinct dec 16 fresh step l x (r .distinct);
         }
 
--- ---- right behind a frame, whatever the table held
+-- ---- right after a frame, whatever the table held
 
 module _ {K W : Type 0} (B : Table K W) (t : B .State) (z : B .Sized t) (k : K) (g : B .Legal k) where
   -- the slot that the frame used
@@ -167,39 +167,39 @@ module _ {K W : Type 0} (B : Table K W) (t : B .State) (z : B .Sized t) (k : K) 
   has u i = B .columns .matches u k i && inUse (rank B u) i
 
   module _ (w : W) where
-    abbrev behind : B .State
-    behind = B .columns .store t slot k w
+    abbrev left : B .State
+    left = B .columns .store t slot k w
 
     -- the slot has the key and is in use
-    slot-has : has behind slot ≡ true
+    slot-has : has left slot ≡ true
     slot-has =
         let l = target-below B t k in
         let y = B .stored t slot k w z g l in
-        and-yes (B .matched behind k slot (y .sized) g l .1 (sym (y .same .0)))
-        (lt-ltb (rank B behind slot) 16 (rw (y .uses slot l, eq-eqb slot slot refl) (omega arith)))
+        and-yes (B .matched left k slot (y .sized) g l .1 (sym (y .same .0)))
+        (lt-ltb (rank B left slot) 16 (rw (y .uses slot l, eq-eqb slot slot refl) (omega arith)))
 
     -- no other slot has come to have it or into use
-    other-had : (j : ℕ) → j < 16 → j ≢ slot → has behind j ≡ true → has t j ≡ true
+    other-had : (j : ℕ) → j < 16 → j ≢ slot → has left j ≡ true → has t j ≡ true
     other-had j l n e =
         let y = B .stored t slot k w z g (target-below B t k) in
-        let b = and-both (B .columns .matches behind k j) (inUse (rank B behind) j) e in
-        let r = ltb-true (rank B behind j) 16 (b .1) in
-        let u : rank B behind j ≡ raised (rank B t slot) (rank B t j) = y .uses j l ∙ cond-no _ _ (ne-eqb j slot n) in
-        and-yes (B .matched t k j z g l .1 (B .matched behind k j (y .sized) g l .0 (b .0) ∙ y .other j n .0))
+        let b = and-both (B .columns .matches left k j) (inUse (rank B left) j) e in
+        let r = ltb-true (rank B left j) 16 (b .1) in
+        let u : rank B left j ≡ raised (rank B t slot) (rank B t j) = y .uses j l ∙ cond-no _ _ (ne-eqb j slot n) in
+        and-yes (B .matched t k j z g l .1 (B .matched left k j (y .sized) g l .0 (b .0) ∙ y .other j n .0))
         (lt-ltb (rank B t j) 16 (omega (arith, raised-least (rank B t slot) (rank B t j))))
 
-    slot-found : slotOf (B .columns) behind k ≡ At slot
+    slot-found : slotOf (B .columns) left k ≡ At slot
     slot-found =
-        first-again (has t) (has behind) 0 16 slot zero-le (target-below B t k) slot-has other-had (again (slotOf (B .columns) t k))
+        first-again (has t) (has left) 0 16 slot zero-le (target-below B t k) slot-has other-had (again (slotOf (B .columns) t k))
       where
         again : (f : Found) → slotOr (slotOr (newSlot (rank B t)) f) f ≡ slotOr (newSlot (rank B t)) f
         again (At i) = refl
         again Nothing = refl
 
-    value-found : valueOf (B .columns) behind k ≡ some w
-    value-found = ap (valueAt (B .columns) behind) slot-found ∙ ap some (B .stored t slot k w z g (target-below B t k) .same .1)
+    value-found : valueOf (B .columns) left k ≡ some w
+    value-found = ap (valueAt (B .columns) left) slot-found ∙ ap some (B .stored t slot k w z g (target-below B t k) .same .1)
 
   -- the table has of the frame's key what the frame left
-  pub value-behind : {I : Type 0} (fresh : I → W) (step : W → I → W) (i : I)
+  pub value-left : {I : Type 0} (fresh : I → W) (step : W → I → W) (i : I)
       → valueOf (B .columns) (stepped (B .columns) fresh step t k i) k ≡ some (after fresh step (valueOf (B .columns) t k) i)
-  value-behind fresh step i = value-found (after fresh step (valueOf (B .columns) t k) i)
+  value-left fresh step i = value-found (after fresh step (valueOf (B .columns) t k) i)
