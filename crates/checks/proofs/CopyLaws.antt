@@ -31,6 +31,7 @@ use Rattle.checks.proofs.TimeFieldLaws.{latest, alert-same}
 
 -- ---- SV streams
 
+-- only the outcome replay is one
 replay-is : (o : SvSeqOutcome) → isReplay o ≡ true → o ≡ Replay
 unfolding isReplay
 replay-is Replay e = refl
@@ -80,6 +81,7 @@ numbers-again t key numbers time time′ z g =
 
 -- ---- clocks
 
+-- the check by whether the frame has a pair
 abbrev checkedIf : Bool → List ℕ → ℕ → ℕ → ℕ × ℕ → TimeChecked
 checkedIf present t limit address pair =
     cond present
@@ -104,11 +106,11 @@ clock-again t limit address pair z = go (hasClock pair)
 
 -- ---- reservations
 
--- a reservation that is bound to an address
+-- the reservations with that of a slot bound to an address
 abbrev bound : List ℕ → ℕ → ℕ → List ℕ
 bound t i address = wordSet (wordSet t 178 i 1) 194 i address
 
--- is not bound to another
+-- a frame of the bound address is no hijack
 bound-again : (t key : List ℕ) (address i : ℕ) → length t ≡ 210 → length key ≡ 10 → found named t key ≡ At i
     → cbChecked (bound t i address) key address .hijack ≡ false
 unfolding cbChecked boundAt

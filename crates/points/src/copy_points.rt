@@ -63,6 +63,7 @@ fn goose_copies() {
     hear_goose(first, 1, 90, 1259);
 }
 
+// Allowed the first time.
 fn raw_copies() {
     let first = hear_raw(Iec61850Monitor::new(), 1250);
     hear_raw(first, 1259);

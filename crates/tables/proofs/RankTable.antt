@@ -178,7 +178,7 @@ module _ {K W : Type 0} (B : Table K W) (t : B .State) (z : B .Sized t) (k : K) 
         and-yes (B .matched left k slot (y .sized) g l .1 (sym (y .same .0)))
         (lt-ltb (rank B left slot) 16 (rw (y .uses slot l, eq-eqb slot slot refl) (omega arith)))
 
-    -- no other slot has come to have it or into use
+    -- no other slot got the key, or came into use
     other-had : (j : ℕ) → j < 16 → j ≢ slot → has left j ≡ true → has t j ≡ true
     other-had j l n e =
         let y = B .stored t slot k w z g (target-below B t k) in
