@@ -23,6 +23,7 @@ use Rattle.wire.proofs.PartLaws.{rest-is}
 use Rattle.records.specs.declared.error.VsError.{VsError}
 use Rattle.records.specs.declared.error.VsError.the-variants.{InvalidInput}
 use Rattle.wire.specs.Element.{limited, longForm, lengthOf, headWith, headOf, within, headed, element}
+use Rattle.wire.specs.LengthCases.{furtherOctets}
 use Rattle.wire.specs.Element.{Elements, ended, failed, next, elementThen, elementsOf, elements}
 use Rattle.wire.specs.Element.{Sought, found, missing, error, firstContent, contentOf, opened}
 use Rattle.wire.specs.Element.{contentPlace, openedPlace, firstPlace}
@@ -37,52 +38,27 @@ module _ (tag start len total : ℕ) where
   unfolding within
   within-not h = rw (lt-leb (start + len) total h)
 
--- the long form, by what its octets are
+-- further octets, by how many there are and what they hold
 module _ (n : ℕ) (further : List ℕ) where
-  pub long-none : n ≡ 0 → longForm n further ≡ Refused
-  unfolding longForm
-  long-none e = rw e
+  pub further-missing : length further < n → furtherOctets n further ≡ Refused
+  unfolding furtherOctets
+  further-missing h = rw (lt-leb n (length further) h)
 
-  pub long-many : 4 < n → longForm n further ≡ Refused
-  unfolding longForm
-  long-many h = rw (le-leb 1 n (omega arith), lt-leb n 4 h)
+  module _ (four : n ≤ 4) (there : n ≤ length further) {value : ℕ} (e : value ≡ bigEndian (take 4 (take n further))) where
+    further-limited : furtherOctets n further ≡ limited (n + 1) value
+    unfolding furtherOctets
+    further-limited = rw (le-leb n (length further) there, e, take-all 4 (take n further) (simp length-take (omega arith)))
 
-  pub long-missing : length further < n → longForm n further ≡ Refused
-  unfolding longForm
-  long-missing h = rw (lt-leb n (length further) h) (neither (leb 1 n) (leb n 4))
-    where
-      neither : (a b : Bool) → cond (a && b && false) (limited (n + 1) (bigEndian (take n further))) Refused ≡ Refused
-      neither true true = refl
-      neither true false = refl
-      neither false b = refl
+    pub further-is : value ≤ 65535 → furtherOctets n further ≡ Definite (n + 1) value
+    further-is h = further-limited ∙ rw (le-leb value 65535 h)
 
-  module _ (one : 1 ≤ n) (four : n ≤ 4) (there : n ≤ length further) {value : ℕ} (e : value ≡ bigEndian (take 4 (take n further))) where
-    long-limited : longForm n further ≡ limited (n + 1) value
-    unfolding longForm
-    long-limited =
-        rw (le-leb 1 n one, le-leb n 4 four, le-leb n (length further) there, e, take-all 4 (take n further) (simp length-take (omega arith)))
+    pub further-above : 65535 < value → furtherOctets n further ≡ Refused
+    further-above h = further-limited ∙ rw (lt-leb value 65535 h)
 
-    pub long-is : value ≤ 65535 → longForm n further ≡ Definite (n + 1) value
-    long-is h = long-limited ∙ rw (le-leb value 65535 h)
-
-    pub long-above : 65535 < value → longForm n further ≡ Refused
-    long-above h = long-limited ∙ rw (lt-leb value 65535 h)
-
--- the length octets, by the first
 pub length-none : (octets : List ℕ) → length octets ≡ 0 → lengthOf octets ≡ Refused
 unfolding lengthOf
 length-none [] e = refl
 length-none (o ∷ more) e = absurd (omega arith)
-
-pub length-short : (octets : List ℕ) → 0 < length octets → octetAt octets 0 < 0x80 → lengthOf octets ≡ Definite 1 (octetAt octets 0)
-unfolding lengthOf
-length-short [] h l = absurd (not-suc-le-zero h)
-length-short (o ∷ more) h l = rw (lt-ltb o 0x80 l)
-
-pub length-long : (octets : List ℕ) → 0 < length octets → 0x80 ≤ octetAt octets 0 → lengthOf octets ≡ longForm (octetAt octets 0 - 0x80) (drop 1 octets)
-unfolding lengthOf
-length-long [] h l = absurd (not-suc-le-zero h)
-length-long (o ∷ more) h l = rw (le-ltb o 0x80 l)
 
 -- the head, by the first two octets
 module _ (octets : List ℕ) where

@@ -1,5 +1,6 @@
 pub mod PartLaws
 pub mod NumberLaws
+pub mod LengthCasesHold
 pub mod ElementLaws
 pub mod SoughtLaws
 pub mod HeaderLaws

@@ -1,5 +1,6 @@
 pub mod Number
 pub mod Element
+pub mod LengthCases
 pub mod Reader
 pub mod Header
 pub mod Refusals

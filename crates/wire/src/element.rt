@@ -1,8 +1,10 @@
 // Elements (X.690: tag, length, content), carried over from `parse_tlv` and `decode_sv_apdu` in industrial/iec61850-monitor/src/lib.rs
 // of craton-shield a31d888527 (Apache-2.0) and changed: answers carry numbers, and two thin functions give the parts.
 ghost use mathlib.Core.Path.{_≡_};
+ghost use Prim.Native.Nat.{_≤_};
 ghost use lib.ListN.{take, drop};
-ghost use Rattle.wire.specs.Element.{longForm, lengthOf, headOf, within, element, elements, openedPlace, firstPlace};
+ghost use Rattle.wire.specs.Element.{lengthOf, headOf, within, element, elements, openedPlace, firstPlace};
+ghost use Rattle.wire.specs.LengthCases.{furtherOctets};
 use crate::number::big_endian;
 use records::error::VsError;
 
@@ -36,16 +38,11 @@ pub enum Part {
     Error(VsError),
 }
 
-// The long form: n further octets hold the length.
-pub fn long_form(further: &[u8], n: usize) -> Length
-    ensures { λ r. ⌜ r ≡ longForm n (now (further .entry)) ⌝ }
+// The length that n further octets hold, four at most.
+fn further_octets(further: &[u8], n: usize) -> Length
+    requires { ⌜ n ≤ 4 ⌝ }
+    ensures { λ r. ⌜ r ≡ furtherOctets n (now (further .entry)) ⌝ }
 {
-    if n == 0 {
-        return Length::Refused;
-    }
-    if n > 4 {
-        return Length::Refused;
-    }
     if n > further.len() {
         return Length::Refused;
     }
@@ -59,21 +56,27 @@ pub fn long_form(further: &[u8], n: usize) -> Length
     }
 }
 
-// The length octets at the front of some octets.
+// The length octets at the front of some octets, by the cases of the first (X.690 8.1.3).
 pub fn read_length(bytes: &[u8]) -> Length
     ensures { λ r. ⌜ r ≡ lengthOf (now (bytes .entry)) ⌝ }
 {
     if bytes.len() == 0 {
         return Length::Refused;
     }
-    let first = bytes[0] as usize;
-    if first < 0x80 {
-        return Length::Definite {
+    let first = bytes[0];
+    match first {
+        // 8.1.3.4, short form: the first octet is the length.
+        0x00..=0x7F => Length::Definite {
             octets: 1,
-            value: first,
-        };
+            value: first as usize,
+        },
+        // 8.1.3.6, indefinite form: refused.
+        0x80 => Length::Refused,
+        // 8.1.3.5, long form: one to four further octets hold the length.
+        0x81..=0x84 => further_octets(&bytes[1..], (first - 0x80) as usize),
+        // The remainder of 8.1.3.5, 85 to FF: more further octets, or FF, which c reserves: refused.
+        _ => Length::Refused,
     }
-    long_form(&bytes[1..], first - 0x80)
 }
 
 // The head of the element at the front of some octets, whatever follows it.
