@@ -23,10 +23,10 @@ use Rattle.wire.proofs.PartLaws.{rest-is}
 use Rattle.records.specs.declared.error.VsError.{VsError}
 use Rattle.records.specs.declared.error.VsError.the-variants.{InvalidInput}
 use Rattle.wire.specs.Element.{limited, longForm, lengthOf, headWith, headOf, within, headed, element}
-use Rattle.wire.specs.LengthCases.{furtherOctets}
 use Rattle.wire.specs.Element.{Elements, ended, failed, next, elementThen, elementsOf, elements}
 use Rattle.wire.specs.Element.{Sought, found, missing, error, firstContent, contentOf, opened}
 use Rattle.wire.specs.Element.{contentPlace, openedPlace, firstPlace}
+use Rattle.wire.specs.LengthCases.{furtherOctets}
 use Rattle.wire.specs.Reader.{afterElement}
 
 module _ (tag start len total : ℕ) where
@@ -55,6 +55,7 @@ module _ (n : ℕ) (further : List ℕ) where
     pub further-above : 65535 < value → furtherOctets n further ≡ Refused
     further-above h = further-limited ∙ rw (lt-leb value 65535 h)
 
+-- without a first octet there is no length
 pub length-none : (octets : List ℕ) → length octets ≡ 0 → lengthOf octets ≡ Refused
 unfolding lengthOf
 length-none [] e = refl

@@ -11,7 +11,7 @@ use Rattle.wire.specs.Element.{limited, lengthOf}
 use Rattle.wire.specs.Number.{bigEndian}
 
 -- the cases, in the request's order: the short form (8.1.3.4), the indefinite form (8.1.3.6), the long form of one to four further octets (8.1.3.5),
--- and the remainder: the long form of more, and FF, which 8.1.3.5 c reserves
+-- and the remainder: the long form of five or more, and FF, which by 8.1.3.5 c is not used
 pub data LengthCase : Type 0 where
   short : LengthCase
   indefinite : LengthCase
@@ -25,15 +25,15 @@ firstOctets indefinite = (0x80, 0x80)
 firstOctets long = (0x81, 0x84)
 firstOctets remainder = (0x85, 0xFF)
 
--- a first octet is among them
+-- a case fits a first octet
 abbrev pub fits : LengthCase → ℕ → Bool
 fits c first = leb (firstOctets c .0) first && leb first (firstOctets c .1)
 
--- 8.1.3.5: n further octets hold the length; missing ones are refused
+-- 8.1.3.5: n further octets hold the length; missing ones are refused. As `longForm`, whose limits of n are the case's first octets
 unfoldable pub furtherOctets : ℕ → List ℕ → Length
 furtherOctets n further = cond (leb n (length further)) (limited (n + 1) (bigEndian (take n further))) Refused
 
--- what a case makes of the first octet and of those after it
+-- length octets as a case reads or refuses them, by the first octet and those after it
 abbrev pub readAs : LengthCase → ℕ → List ℕ → Length
 readAs short first further = Definite 1 first
 readAs indefinite first further = Refused

@@ -38,7 +38,7 @@ pub enum Part {
     Error(VsError),
 }
 
-// The length that n further octets hold, four at most.
+// The length that n further octets hold; refused if some are missing or it is above 65535. `big_endian` reads four at most.
 fn further_octets(further: &[u8], n: usize) -> Length
     requires { ⌜ n ≤ 4 ⌝ }
     ensures { λ r. ⌜ r ≡ furtherOctets n (now (further .entry)) ⌝ }
@@ -56,7 +56,7 @@ fn further_octets(further: &[u8], n: usize) -> Length
     }
 }
 
-// The length octets at the front of some octets, by the cases of the first (X.690 8.1.3).
+// The length octets at the front of some octets, by the cases of the first (X.690 8.1.3; there the initial octet, and subsequent ones).
 pub fn read_length(bytes: &[u8]) -> Length
     ensures { λ r. ⌜ r ≡ lengthOf (now (bytes .entry)) ⌝ }
 {
@@ -74,7 +74,7 @@ pub fn read_length(bytes: &[u8]) -> Length
         0x80 => Length::Refused,
         // 8.1.3.5, long form: one to four further octets hold the length.
         0x81..=0x84 => further_octets(&bytes[1..], (first - 0x80) as usize),
-        // The remainder of 8.1.3.5, 85 to FF: more further octets, or FF, which c reserves: refused.
+        // 8.1.3.5, the remainder, five or more further octets and FF, which is not used (c): refused.
         _ => Length::Refused,
     }
 }
