@@ -63,7 +63,8 @@ pub fn read_length(bytes: &[u8]) -> Length
     if bytes.len() == 0 {
         return Length::Refused;
     }
-    let first = bytes[0];
+    // In 32 bits, since on an octet the compiler tests 80 before the short form.
+    let first = bytes[0] as u32;
     match first {
         // 8.1.3.4, short form: the first octet is the length.
         0x00..=0x7F => Length::Definite {

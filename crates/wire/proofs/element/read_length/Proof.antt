@@ -15,6 +15,9 @@ returns c = let a = c .before .before .args in sym (length-none (a .bytes .now) 
 shared-slice-read-first : tie.Need-shared-slice-read-first
 shared-slice-read-first c = search needs
 
+cast-first : tie.Need-cast-first
+cast-first c = omega (arith, c .shared-slice-known2 .given 0)
+
 cast-t9 : tie.Need-cast-t9
 cast-t9 c = search needs
 
@@ -59,6 +62,7 @@ read-length-spec =
     (tie.spec
     returns
     shared-slice-read-first
+    cast-first
     cast-t9
     sub-further-octets
     part-further-octets-start
