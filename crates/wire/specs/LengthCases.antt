@@ -29,7 +29,7 @@ firstOctets remainder = (0x85, 0xFF)
 abbrev pub fits : LengthCase → ℕ → Bool
 fits c first = leb (firstOctets c .0) first && leb first (firstOctets c .1)
 
--- 8.1.3.5: n further octets hold the length; missing ones are refused. As `longForm`, whose limits of n are the case's first octets
+-- 8.1.3.5: n further octets hold the length; missing ones are refused. This is `longForm` without its limits of n, which the case sets
 unfoldable pub furtherOctets : ℕ → List ℕ → Length
 furtherOctets n further = cond (leb n (length further)) (limited (n + 1) (bigEndian (take n further))) Refused
 
