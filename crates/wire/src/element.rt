@@ -63,7 +63,7 @@ pub fn read_length(bytes: &[u8]) -> Length
     if bytes.len() == 0 {
         return Length::Refused;
     }
-    // In 32 bits, since on an octet the compiler tests 80 before the short form.
+    // In 32 bits: matched as an octet, it takes 2% more instructions a frame (docs/requests/05.md).
     let first = bytes[0] as u32;
     match first {
         // 8.1.3.4, short form: the first octet is the length.
