@@ -159,13 +159,12 @@ fn nothing_done(rounds: usize, frames: usize) {
     println!("\nA call by value of the same monitor, frame and result that does nothing: {:.0} / {:.0}", ways[0].best(), ways[0].median());
 }
 
-// GOOSE frames of streams in turn, each with an address of its own or all with one. The names are alike but for their end.
-fn goose_frames(frames: usize, streams: usize, len: usize, one_address: bool) -> Vec<GooseFrame> {
+fn goose_frames(frames: usize, streams: usize) -> Vec<GooseFrame> {
     (0..frames)
         .map(|k| GooseFrame {
-            src_mac: [2, 0, 0, 0, 0, if one_address { 0 } else { (k % streams) as u8 }],
-            go_cb_ref: svid(k % streams, len),
-            go_cb_ref_len: len as u8,
+            src_mac: [2, 0, 0, 0, 0, (k % streams) as u8],
+            go_cb_ref: svid(k % streams, 20),
+            go_cb_ref_len: 20,
             st_num: 1,
             sq_num: (k / streams) as u32,
             test: 0,
@@ -190,8 +189,8 @@ fn their_goose(f: &GooseFrame) -> rust::GooseFrame {
     }
 }
 
-fn goose_row(rounds: usize, frames: usize, streams: usize, len: usize, one_address: bool) {
-    let ours = goose_frames(frames, streams, len, one_address);
+fn goose_row(rounds: usize, frames: usize, streams: usize) {
+    let ours = goose_frames(frames, streams);
     let theirs: Vec<rust::GooseFrame> = ours.iter().map(their_goose).collect();
     let ways = timed(rounds, frames, &mut [
         &mut || {
@@ -213,8 +212,7 @@ fn goose_row(rounds: usize, frames: usize, streams: usize, len: usize, one_addre
             allowed
         },
     ]);
-    let address = if one_address { " of one address" } else { "" };
-    row(&format!("GOOSE, {streams} streams{address}, names of {len} octets"), false, &ways);
+    row(&format!("GOOSE, {streams} streams"), false, &ways);
 }
 
 fn mms_frames(frames: usize) -> Vec<MmsFrame> {
@@ -335,14 +333,8 @@ fn main() {
         }
     }
     sv_row(rounds, frames, 8, 4, false);
-    for len in [20, 64] {
-        for streams in [16, 17] {
-            goose_row(rounds, frames, streams, len, false);
-        }
-    }
-    for streams in [16, 17] {
-        goose_row(rounds, frames, streams, 64, true);
-    }
+    goose_row(rounds, frames, 16);
+    goose_row(rounds, frames, 17);
     mms_row(rounds, frames);
     raw_row(rounds, frames, 39);
     raw_row(rounds, frames, 120);

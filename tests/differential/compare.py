@@ -1,9 +1,9 @@
 #!/usr/bin/env python3
 # Compares our replay with the Rust driver on scripts made from a seed: compare.py OURS THEIRS COUNTED DIR SEED CALLS
 # The three are programs; COUNTED is the driver over the counted copy of the Rust, for the tally. Besides CALLS calls a tenth as many are compared in
-# which frames are heard twice. Scripts are made in pieces in DIR, which keeps the tally as tally.json and, after a difference, the calls that show
-# it as difference.script. Every script is tested: in the GOOSE frames of a history no address uses two names of one hash (hashes.py).
-# Exit status: 0 no difference, 1 a difference, or an address that does.
+# which frames are heard twice. Scripts are made in pieces in DIR, which keeps the tally as tally.json and, after a difference, the calls that show it as
+# difference.script.
+# Exit status: 0 no difference, 1 a difference.
 import filecmp
 import itertools
 import os
@@ -13,7 +13,6 @@ import sys
 import time
 
 import copies
-import hashes
 import malformed
 import scripts
 import tally
@@ -135,10 +134,9 @@ def compare_piece(programs, counted, folder, calls, first, counts):
 
 
 # Compares the script of a seed, and answers whether no difference was found.
-def compare_calls(programs, counted, folder, seed, many, counts, check):
+def compare_calls(programs, counted, folder, seed, many, counts):
     done, took = 0, [0, 0]
     for calls in pieces(scripts.lines(seed), many):
-        check.add(calls)
         times = compare_piece(programs, counted, folder, calls, done + 1, counts)
         if times is None:
             return False
@@ -149,11 +147,10 @@ def compare_calls(programs, counted, folder, seed, many, counts, check):
 
 
 # Compares scripts in which frames are heard twice, and answers whether there is no difference and each second copy is refused as request 1 says.
-def compare_copies(programs, folder, seed, many, check):
+def compare_copies(programs, folder, seed, many):
     heard = 0
     for piece in pieces(copies.lines(seed), many):
         calls, second = zip(*piece)
-        check.add(calls)
         ours, theirs = (lines_of(program, "".join(calls).encode()) for program in programs)
         unequal = first_unequal(ours, theirs)
         if unequal:
@@ -175,13 +172,10 @@ def why_malformed(lines):
     return re.sub(r"\d+", "K", found[1].decode()) if found else None
 
 
-# Compares the small scripts about the form of lines, and answers whether no difference was found. One with a line that is meant to be malformed has
-# no GOOSE frame before it.
-def compare_malformed(programs, folder, counts, check):
+# Compares the small scripts about the form of lines, and answers whether no difference was found.
+def compare_malformed(programs, folder, counts):
     many = bad = 0
     for many, (script, is_bad) in enumerate(malformed.scripts(), 1):
-        if not is_bad:
-            check.add(shown(script).split("\n"))
         ours, theirs = (lines_of(program, script) for program in programs)
         if first_unequal(ours, theirs):
             print(f"DIFFERENT at small script {many}:")
@@ -201,12 +195,11 @@ def compare_malformed(programs, folder, counts, check):
 def main(ours, theirs, counted, folder, seed, many):
     counts = tally.empty()
     counts.update({("malformed line", why): 0 for why in tally.MALFORMED})
-    programs, check = (ours, theirs), hashes.Check()
+    programs = (ours, theirs)
     many = int(many)
-    same = compare_malformed(programs, folder, counts, check) and compare_copies(programs, folder, seed, many // 10, check)
-    same = same and compare_calls(programs, counted, folder, seed, many, counts, check)
+    same = compare_malformed(programs, folder, counts) and compare_copies(programs, folder, seed, many // 10)
+    same = same and compare_calls(programs, counted, folder, seed, many, counts)
     if same:
-        print(check.said())
         tally.show(counts)
         tally.save(counts, os.path.join(folder, "tally.json"))
     return 0 if same else 1

@@ -1,5 +1,5 @@
 # Frames heard twice (request 1): random histories in which a copy of each GOOSE, SV and raw frame stands behind it, equal but for its time, and what
-# the second copy must be answered, by document 01's list of refusals. A copy has the name of its frame, so hashes.py holds of these histories too.
+# the second copy must be answered, by document 01's list of refusals.
 import itertools
 import random
 import re

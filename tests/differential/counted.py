@@ -20,14 +20,12 @@ pub mod counted {
     use std::collections::BTreeMap;
     use std::string::{String, ToString};
     use std::sync::Mutex;
-    use std::vec::Vec;
 
     static PLACES: [AtomicU64; MANY] = [const { AtomicU64::new(0) }; MANY];
     static LEVEL: AtomicUsize = AtomicUsize::new(0);
     static FAILED: AtomicBool = AtomicBool::new(false);
     static CALL: Mutex<String> = Mutex::new(String::new());
     static NAMED: Mutex<BTreeMap<String, u64>> = Mutex::new(BTreeMap::new());
-    static STREAMS: Mutex<[Vec<u8>; 16]> = Mutex::new([const { Vec::new() }; 16]);
 
     /// Counts a place.
     pub fn place(number: usize) {
@@ -42,22 +40,6 @@ pub mod counted {
     /// Whether an element is read at this level.
     pub fn at_level(number: usize) -> bool {
         LEVEL.load(Relaxed) == number
-    }
-
-    /// Keeps the name of the GOOSE stream in a slot.
-    pub fn keep_name(slot: usize, name: &[u8]) {
-        STREAMS.lock().unwrap()[slot] = name.to_vec();
-    }
-
-    /// The name of the GOOSE stream in a slot.
-    pub fn name_at(slot: usize) -> Vec<u8> {
-        STREAMS.lock().unwrap()[slot].clone()
-    }
-
-    /// Whether two names differ only in zeros at the end of the longer one.
-    pub fn differ_in_zeros(one: &[u8], other: &[u8]) -> bool {
-        let (short, long) = if one.len() < other.len() { (one, other) } else { (other, one) };
-        short.len() < long.len() && long.starts_with(short) && long[short.len()..].iter().all(|octet| *octet == 0)
     }
 
     fn named(name: String) {
@@ -158,7 +140,8 @@ def statements(monitor):
             in_monitor.append((place.function, place.text, text, place.before))
         else:
             in_ind.append((place.function, place.text, text.replace("vs_types_ind::", "crate::"), place.before))
-    in_monitor += [(*other, True) for other in places.STATEMENTS]
+    for function, text, level in places.LEVEL_STATEMENTS:
+        in_monitor.append((function, text, f"vs_types_ind::counted::level({level});", True))
     return in_monitor, in_ind
 
 

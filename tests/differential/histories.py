@@ -1,12 +1,11 @@
 # Random histories of calls, with few keys, so that tables fill and give way and names, addresses and clients meet. `endless` yields them, each
-# a list of lines that begins with `new` or `new_strict`. In the GOOSE frames of a history no address uses two names of one hash (hashes.py).
+# a list of lines that begins with `new` or `new_strict`.
 import itertools
 import struct
 
 import calls
 import frames
 from calls import MOST_16, MOST_32, MOST_64, call, goose_publisher, mms_rule, sv_publisher
-from hashes import fnv1a_32
 from listed import COLLIDING, TIMES
 
 SIZES = (1, 2, 3, 5, 15, 16, 17, 18, 24, 40)
@@ -43,7 +42,7 @@ class History:
         self.rates = rng.choice(((1,), (1, 2), (0, 1, 3), (2, 10, 1000), (0, 65535, 7)))
         self.gap = self.jump = 0
         self.schedule = (4000, 1_000_000, 25)
-        self.counts, self.states, self.clocks, self.asked, self.hashed = {}, {}, {}, {}, {}
+        self.counts, self.states, self.clocks, self.asked = {}, {}, {}, {}
         self.now = rng.choice((0, 1_000_000, rng.getrandbits(40), rng.choice(TIMES)))
         self.steady = rng.random() < 0.6
         self.clocked = rng.choice((0, 0.3, 0.9))
@@ -155,13 +154,8 @@ class History:
         time, client = self.request_time(invoke), self.rng.choice(self.clients)
         return calls.mms(service, raw, self.stated(name), invoke, time, client, self.rng.randrange(2))
 
-    # The name that an address uses in place of this one: of names of one hash the one that it used first.
-    def goose_name(self, mac, name):
-        return self.hashed.setdefault((mac, fnv1a_32(name)), name)
-
     def goose(self):
-        mac = self.rng.choice(self.macs)
-        name = self.goose_name(mac, self.rng.choice(self.names))
+        mac, name = self.rng.choice(self.macs), self.rng.choice(self.names)
         st, sq, now = self.state((mac, name))
         return calls.goose(mac, self.stated(name), st, sq, self.rng.random() < self.tested, now, self.clock(mac))
 

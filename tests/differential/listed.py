@@ -1,6 +1,5 @@
 # Listed histories: each way over the boundaries of a check, one after the other. Every maker yields the lines of calls; a history begins with
-# `new` or `new_strict`. In the GOOSE frames of a history no address uses two names of one hash (hashes.py). MAKERS has them all, each a function of
-# a source of chance.
+# `new` or `new_strict`. MAKERS has them all, each a function of a source of chance.
 import itertools
 
 import calls
@@ -224,15 +223,15 @@ def full_tables(rng):
             yield mms(READ, 1, written, key[0], rng.choice((0, 499_999, 500_000)))
 
 
-# Names of one hash, in GOOSE frames of two addresses: they have different streams, rules and reservations.
+# Names of one hash: they share a GOOSE stream, and have different SV streams, rules and reservations.
 def equal_hashes(_):
     for first, second in itertools.permutations(COLLIDING, 2):
         for mac, st, sq in itertools.product((MAC, OTHER), (4, 5, 6), (6, 7, 8)):
             yield calls.new()
             yield from (mms(SELECT, 11, name(first), client=1), mms(SELECT, 11, name(first), client=1, kind=0))
-            yield from (goose(MAC, name(first), 5, 7), goose(OTHER, name(second), st, sq), goose(MAC, name(first), 5, 8))
+            yield from (goose(MAC, name(first), 5, 7), goose(mac, name(second), st, sq), goose(MAC, name(first), 5, 8))
             yield from (sv(MAC, name(first), 5, 0, name(first)), sv(mac, name(second), 5, 0, name(second)))
-            yield from (goose_publisher(mac, first), goose(OTHER, name(second), 9, 9), goose(MAC, name(first), 9, 9))
+            yield from (goose_publisher(MAC, first), goose(mac, name(second), 9, 9), goose(mac, name(first), 9, 9))
 
 
 # A bucket of each capacity, emptied, and asked again about the time of its next token.

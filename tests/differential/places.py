@@ -12,10 +12,6 @@ OTHER_KIND = "self.cb_reservations.iter().any(|e| e.matches_ref(cb_ref, cb_ref_l
 THIS_KIND = "self.cb_reservations.iter().any(|e| e.matches_ref(cb_ref, cb_ref_len, is_goose))"
 OTHER_ONLY = f"{OTHER_KIND} && !{THIS_KIND}"
 OWN = "self.cb_reservations.iter().any(|e| e.active && e.owner_client_id == client_id"
-# The name of a GOOSE frame; that of the stream in slot I, which the counted copy keeps, since the Rust has only its hash; and whether the table has
-# a stream, E in slot I, of which a test holds.
-NAME, KEPT = "&frame.go_cb_ref[..cb_len]", "vs_types_ind::counted::name_at(i)"
-BESIDE = "self.goose_seq_table.iter().enumerate().any(|(i, e)| e.active && {})"
 
 
 # The refusals of document 01, by their numbers, and the alerts that do not refuse.
@@ -195,21 +191,6 @@ def goose_streams():
     yield Place(group, "enforced, too early", retx, "retx_anomaly = true;", "observed < u64::from(expected)")
     yield Place(group, "enforced, too late", retx, "retx_anomaly = true;", "observed > u64::from(expected)")
     yield Place(group, "enforced, checked", retx, observed)
-    yield from goose_names(group)
-
-
-# The names of the GOOSE frames that reach the check of the stream, and those of the streams that are then in the table.
-def goose_names(group):
-    where, check = "fn inspect_goose(", "// Replay detection (mutates seq state and last_seen_us)."
-    one_hash = "e.src_mac != frame.src_mac && e.go_cb_ref_hash == go_cb_ref_hash && {} {} " + NAME
-    zeros = f"e.src_mac == frame.src_mac && vs_types_ind::counted::differ_in_zeros(&{KEPT}, {NAME})"
-    yield Place(group, "name of 64 octets", where, check, "frame.go_cb_ref_len == 64", BEFORE)
-    yield Place(group, "stated length above 64", where, check, "frame.go_cb_ref_len > 64", BEFORE)
-    yield Place(group, "beside one of its address, alike but for zeros at the end", where, check, BESIDE.format(zeros), BEFORE)
-    yield Place(group, "beside one of its name and another address", where, check, BESIDE.format(one_hash.format(KEPT, "==")), BEFORE)
-    yield Place(
-        group, "beside one of its hash, another name and another address", where, check, BESIDE.format(one_hash.format(KEPT, "!=")), BEFORE,
-    )
 
 
 def clocks():
@@ -231,12 +212,7 @@ def sv_streams():
     group, where = "SV stream", "fn check_sv_seq("
     backward, forward = "let backward = prev - smp_cnt;", "let forward_across_wrap: u32 = (u16::MAX as u32 + 1) - backward as u32;"
     limit, gap = "self.sv_max_smp_cnt_gap", "SvSeqOutcome::ForwardGap(gap) => {"
-    one_hash = "fnv1a_32(&e.svid[..usize::from(e.svid_len)]) == fnv1a_32(&svid[..usize::from(svid_len)])"
     yield Place(group, "first frame, free slot", where, "if !entry.active {")
-    yield Place(
-        group, "beside one of its hash and another svID", where, "let now = self.sv_seq_tick;",
-        f"self.sv_seq_table.iter().any(|e| e.active && !e.matches(svid, svid_len) && {one_hash})",
-    )
     yield Place(group, "equal count, replay", where, "if smp_cnt == prev {")
     yield Place(group, "below by 32766 or less, replay", where, "if backward < u16::MAX / 2 {")
     yield Place(group, "below by 32766", where, backward, "backward == 32766")
@@ -336,17 +312,12 @@ def reasons_at_levels(reasons):
             yield reason, level
 
 
-# The other statements of the monitor: the function, the text before which they stand, and the statement. They say at which level an element is
-# read, and keep the name of a GOOSE stream.
-STATEMENTS = (
-    ("fn decode_sv_apdu(", "let (_tag, content, _rest) = parse_tlv(apdu)?;", "vs_types_ind::counted::level(0);"),
-    ("fn decode_sv_apdu(", "let (tag, content, rest) = parse_tlv(cursor)?;", "vs_types_ind::counted::level(1);"),
-    ("fn decode_sv_apdu(", "let (_tag, content, _rest) = parse_tlv(seq_asdu)?;", "vs_types_ind::counted::level(2);"),
-    ("fn decode_sv_apdu(", "let (tag, content, rest) = parse_tlv(walk)?;", "vs_types_ind::counted::level(3);"),
-    (
-        "fn inspect_goose(", "if matches!(replay, Some(true)) {",
-        f"vs_types_ind::counted::keep_name(self.find_goose_seq(frame.src_mac, go_cb_ref_hash).unwrap(), {NAME});",
-    ),
+# The statements that say at which level an element is read: the function, the text before which they stand, and the level.
+LEVEL_STATEMENTS = (
+    ("fn decode_sv_apdu(", "let (_tag, content, _rest) = parse_tlv(apdu)?;", 0),
+    ("fn decode_sv_apdu(", "let (tag, content, rest) = parse_tlv(cursor)?;", 1),
+    ("fn decode_sv_apdu(", "let (_tag, content, _rest) = parse_tlv(seq_asdu)?;", 2),
+    ("fn decode_sv_apdu(", "let (tag, content, rest) = parse_tlv(walk)?;", 3),
 )
 
 PLACES = (*refusals(), *evictions(), *reservations(), *rules(), *buckets(), *goose_streams(), *clocks(), *sv_streams(), *reading())

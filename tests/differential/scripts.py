@@ -1,6 +1,5 @@
 #!/usr/bin/env python3
-# Makes a script of calls to compare two monitors by. The same seed gives the same script. In the GOOSE frames of a history, from one `new` or
-# `new_strict` to the next, no address uses two names of one hash (hashes.py).
+# Makes a script of calls to compare two monitors by. The same seed gives the same script.
 #     scripts.py SEED COUNT > FILE     COUNT calls: random histories, and by turns some of each listed kind until these are used up
 import itertools
 import random

@@ -8,7 +8,7 @@ use Rattle.records.specs.Decide.{decide_list, decide_pair}
 use Rattle.records.specs.Remembered.{remembered}
 use Rattle.tables.proofs.KeyedTables.{Holds, holds_remembered}
 use Rattle.tables.proofs.KeyLaws.{LegalKey}
-use Rattle.tables.proofs.KeyMaps.{by_name, by_number_and_name, by_number}
+use Rattle.tables.proofs.KeyMaps.{by_name, by_two_numbers, by_number}
 use Rattle.tables.proofs.WordTables.{one_laws, two_laws, three_laws, length_none, rank_none}
 use Rattle.tables.specs.Order.{no_entries}
 use Rattle.tables.specs.Table.{stepped}
@@ -25,12 +25,12 @@ pub sv_remembered : (h : List (List ℕ × ℕ)) → All (λ x. LegalKey 0 x.0) 
 unfolding sv_checked
 sv_remembered = holds_remembered (by_name one_laws 0) (λ i. i) kept_count (no_entries 178) (length_none 178) (rank_none 178 (omega arith))
 
--- GOOSE streams by address and control block
-pub goose_remembered : (h : List ((ℕ × List ℕ) × ((ℕ × ℕ) × ℕ))) → All (λ x. LegalKey x.0.0 x.0.1) h
-    → Holds (by_number_and_name three_laws) (foldl (λ t x. (goose_checked t (goose_key x.0.0 x.0.1) x.1).table) (no_entries 210) h)
-    (remembered (decide_pair ℕ_discrete (decide_list ℕ_discrete)) 16 (λ i. i) kept_numbers (reverse h))
+-- GOOSE streams by address and hash
+pub goose_remembered : (h : List ((ℕ × ℕ) × ((ℕ × ℕ) × ℕ))) → All (λ x. Unit {0}) h
+    → Holds (by_two_numbers three_laws) (foldl (λ t x. (goose_checked t (goose_key x.0.0 x.0.1) x.1).table) (no_entries 210) h)
+    (remembered (decide_pair ℕ_discrete ℕ_discrete) 16 (λ i. i) kept_numbers (reverse h))
 unfolding goose_checked
-goose_remembered = holds_remembered (by_number_and_name three_laws) (λ i. i) kept_numbers (no_entries 210) (length_none 210) (rank_none 210 (omega arith))
+goose_remembered = holds_remembered (by_two_numbers three_laws) (λ i. i) kept_numbers (no_entries 210) (length_none 210) (rank_none 210 (omega arith))
 
 -- clocks by address, of the frames that have a pair
 pub clocks_remembered : (h : List (ℕ × (ℕ × ℕ))) → All (λ x. Unit {0}) h

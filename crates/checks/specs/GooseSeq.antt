@@ -1,4 +1,4 @@
--- GOOSE streams (01, "Remembered tables"; request 8: keyed by address and control block).
+-- GOOSE streams (01, "Remembered tables": keyed by address and FNV-1a of the name).
 use Rattle.std.specs.Prelude.{ℕ, min, ◌-◌, ◌^◌, Bool, false, ◌&&◌, ◌||◌, not, cond, List, eqb, ltb, leb}
 use Rattle.std.proofs.Math.Option.{Option, none, some}
 use Rattle.records.specs.declared.schedule.RetxSchedule.{RetxSchedule}

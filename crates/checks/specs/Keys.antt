@@ -1,6 +1,6 @@
 -- The keys of streams, reservations and publishers (01, "Remembered tables", "Rules"), and a flag as a word.
 use Rattle.std.specs.Prelude.{ℕ, Bool, cond, List}
-use Rattle.tables.specs.Key.{key_of}
+use Rattle.tables.specs.Key.{key_of, two_number_key}
 
 -- a flag as a word
 abbrev pub flag_word : Bool → ℕ
@@ -10,9 +10,9 @@ flag_word flag = cond flag 1 0
 abbrev pub plain_key : List ℕ → List ℕ
 plain_key name = key_of 0 name
 
--- GOOSE streams by address and control block (request 8)
-abbrev pub goose_key : ℕ → List ℕ → List ℕ
-goose_key address name = key_of address name
+-- GOOSE streams by address and FNV-1a of the name
+abbrev pub goose_key : ℕ → ℕ → List ℕ
+goose_key address hash = two_number_key address hash
 
 -- reservations by name and kind, 1 for GOOSE and 0 for SV
 abbrev pub reservation_key : Bool → List ℕ → List ℕ

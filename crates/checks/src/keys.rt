@@ -29,10 +29,10 @@ pub fn publisher_key(name: &[u8]) -> [u64; 10]
 }
 
 // The key of a GOOSE stream.
-pub fn goose_key(address: u64, name: [u8; 64], len: u8) -> [u64; 10]
-    ensures { result ≡ goose_key address (name_of name len) }
+pub fn goose_key(address: u64, hash: u32) -> [u64; 10]
+    ensures { result ≡ goose_key address hash }
 {
-    name_key(address, name, len)
+    [address, hash as u64, 0, 0, 0, 0, 0, 0, 0, 0]
 }
 
 // The key of a reservation.

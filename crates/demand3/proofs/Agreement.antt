@@ -2,7 +2,7 @@
 use Prim.Native.Nat.{ℕ, ◌-◌, ◌<◌, ◌^◌}
 use mathlib.Core.Bool.{Bool, true, false, ◌&&◌, not, cond}
 use mathlib.Core.List.{List, [], ◌∷◌, ◌++◌}
-use mathlib.Core.Path.{◌≡◌, refl, ap, ◌∙◌}
+use mathlib.Core.Path.{◌≡◌, refl, sym, ap, ◌∙◌}
 use native.Mathlib.Decide.{ℕ_discrete, dec_lt}
 use native.Mathlib.Omega.{arith}
 use borrow.Author.Tests.{lt-ltb, le-ltb, le-leb, lt-leb, eq-eqb, ne_eqb}
@@ -12,7 +12,8 @@ use lib.Seq.{get_or-set_same}
 use Rattle.records.specs.declared.frame.GooseFrame.{GooseFrame}
 use Rattle.records.specs.declared.schedule.RetxSchedule.{RetxSchedule}
 use Rattle.records.specs.Decide.{decide_pair, decide_list}
-use Rattle.records.specs.Legal.{LegalGoose}
+use Rattle.records.specs.Hash.{fnv1a}
+use Rattle.records.specs.Legal.{OctetArray, LegalGoose}
 use Rattle.checks.specs.GooseSeq.{replays}
 use Rattle.checks.specs.Keys.{flag_word}
 use Rattle.checks.specs.declared.sv_seq.SvSeqOutcome.TheVariants.{Replay, CycleWrap, SuspiciousSmpGap}
@@ -20,7 +21,6 @@ use Rattle.checks.specs.SvSeq.{across_wrap, count_outcome, is_replay}
 use Rattle.checks.specs.TimeField.{has_clock}
 use Rattle.monitor.specs.Monitor.{Monitor}
 use Rattle.monitor.specs.Settings.{block_test_frames, retx_enforce, time_max_forward_jump, set_block_test_frames, set_retx_schedule, set_time_max_forward_jump}
-use Rattle.inspection.proofs.AddressLaws.{goose_stream_of}
 use Rattle.inspection.specs.Address.{address_of}
 use Rattle.inspection.specs.Calls.{block_test, schedule, max_forward_jump, setting_made}
 use Rattle.inspection.specs.InspectGoose.{control_block, goose_numbers, goose_pair, blocked}
@@ -29,7 +29,7 @@ use Rattle.demand3.specs.Demand3.{Inspection, goose, sv, Legal, address, GooseKe
 use Rattle.demand3.specs.Demand3.{unless_absent, unless_blocked, replays_count, replays_numbers, pair_after, latest16, remembered_lists}
 use Rattle.demand3.specs.Demand3 as claim
 use Rattle.demand3.proofs.LegalLaws.{LegalOne, legal_parts}
-use Rattle.demand3.proofs.MonitorTerms.{sv_reaches, goose_reaches, if_clock, clock_reaches, count_after, numbers_after, monitor_lists}
+use Rattle.demand3.proofs.MonitorTerms.{sv_reaches, goose_stream_of, goose_reaches, if_clock, clock_reaches, count_after, numbers_after, monitor_lists}
 
 -- ---- what is read of a frame: names, numbers and pairs agree by unfolding, addresses where they have six octets
 
@@ -45,7 +45,7 @@ address_agrees (a ∷ b ∷ c ∷ d ∷ e ∷ []) n = absurd (omega (arith, n))
 address_agrees (a ∷ b ∷ c ∷ d ∷ e ∷ f ∷ g ∷ l) n = absurd (omega (arith, n))
 
 key_agrees : (f : GooseFrame) → LegalGoose f → goose_key f ≡ goose_stream_of f
-key_agrees f g = λ i. (address_agrees f.src_mac g.source.size i, control_block f)
+key_agrees f g = λ i. (address_agrees f.src_mac g.source.size i, fnv1a (control_block f))
 
 -- ---- replays
 
@@ -134,7 +134,7 @@ lists_agree m h g =
     λ i. record {
       sv_streams = latest16 (decide_list ℕ_discrete) (λ last new. count_after_lem last new i) (reaching sv_reaches h);
       goose_streams =
-          latest16 (decide_pair ℕ_discrete (decide_list ℕ_discrete)) (λ last new. numbers_after_lem last new i)
+          latest16 (decide_pair ℕ_discrete ℕ_discrete) (λ last new. numbers_after_lem last new i)
           (reaching_agrees (claim.goose_reaches (block_test_frames m)) (goose_reaches m) (goose_agrees m) h g i);
       clocks =
           latest16 ℕ_discrete (λ last new. pair_after_lem last new i)

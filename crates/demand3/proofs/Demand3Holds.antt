@@ -25,19 +25,19 @@ use Rattle.monitor.specs.Monitor.{Monitor}
 use Rattle.monitor.specs.Settings.{block_test_frames, time_max_forward_jump, sv_max_smp_cnt_gap}
 use Rattle.inspection.specs.Address.{address_of}
 use Rattle.inspection.specs.Calls.{Setting, configured_monitor}
-use Rattle.inspection.specs.InspectGoose.{goose_numbers, goose_pair, blocked}
+use Rattle.inspection.specs.InspectGoose.{control_block, goose_numbers, goose_pair, blocked}
 use Rattle.inspection.specs.InspectSv.{sv_pair, count_findings}
 use Rattle.inspection.specs.Report.{Finding, clock_findings}
-use Rattle.inspection.proofs.AddressLaws.{address_octets, address_octets_lem, address_back, address_fits, goose_stream_of}
+use Rattle.inspection.proofs.AddressLaws.{address_octets, address_octets_lem, address_back, address_fits}
 use Rattle.demand3.specs.Demand3.{Inspection, goose, sv, Legal, after_history, answers, Answer, reaching, RememberedLists, remembered_lists}
 use Rattle.demand3.specs.Demand3.{JumpLimit, Premises, Distinguished, SameAnswers, EqualLists, DemandFrom, Demand3, Demand3AfterReset}
 use Rattle.demand3.proofs.Agreement.{lists_agree}
 use Rattle.demand3.proofs.AnswerLaws.{answer_from, length_codes}
 use Rattle.demand3.proofs.LegalLaws.{LegalOne, legal_cons}
-use Rattle.demand3.proofs.MonitorTerms.{sv_reaches, goose_reaches, if_clock, clock_reaches, monitor_lists}
+use Rattle.demand3.proofs.MonitorTerms.{sv_reaches, goose_stream_of, goose_reaches, if_clock, clock_reaches, monitor_lists}
 use Rattle.demand3.proofs.Observables.{Numbers, sv_answer, sv_observable, goose_answer, goose_observable, clock_observable}
 use Rattle.demand3.proofs.PlainMonitor.{Plain, left as left_by, answers_from_lem}
-use Rattle.demand3.proofs.RememberedLaws.{names≟, pairs≟, streams≟, touch_sv, touch_goose, touch_clock, lists_after, moved, list_answer, list_answers}
+use Rattle.demand3.proofs.RememberedLaws.{names≟, pairs≟, touch_sv, touch_goose, touch_clock, lists_after, moved, list_answer, list_answers}
 use Rattle.demand3.proofs.RememberedLaws.{remembered_lists_lem, svid_legal, remembers_history, answers_lists, remembers_new}
 use Rattle.demand3.proofs.Remembering.{configured_tables, configured_free}
 use Rattle.demand3.proofs.ResetLaws.{set_calls, reset_set}
@@ -157,11 +157,11 @@ module _ (m : Monitor) where
 
 -- ---- GOOSE streams: a frame without a clock, not a test
 
-pub goose_frame_of : (x : (ℕ × List ℕ) × (ℕ × ℕ)) → LegalFrame goose_observable x → GooseFrame
+pub goose_frame_of : (x : (ℕ × ℕ) × (ℕ × ℕ)) → LegalFrame goose_observable x → GooseFrame
 goose_frame_of x p = record {
   src_mac = address_octets x.0.0;
-  go_cb_ref = padded x.0.1 (length x.0.1);
-  go_cb_ref_len = length x.0.1;
+  go_cb_ref = padded p.0.1.name (length p.0.1.name);
+  go_cb_ref_len = length p.0.1.name;
   st_num = x.1.0;
   sq_num = x.1.1;
   test = false;
@@ -170,15 +170,15 @@ goose_frame_of x p = record {
   t_fraction_of_second = 0;
 }
 
-pub goose_inspection : (x : (ℕ × List ℕ) × (ℕ × ℕ)) → LegalFrame goose_observable x → Inspection
+pub goose_inspection : (x : (ℕ × ℕ) × (ℕ × ℕ)) → LegalFrame goose_observable x → Inspection
 goose_inspection x p = goose (goose_frame_of x p)
 
-pub goose_frame_legal : (x : (ℕ × List ℕ) × (ℕ × ℕ)) (p : LegalFrame goose_observable x) → LegalOne (goose_inspection x p)
+pub goose_frame_legal : (x : (ℕ × ℕ) × (ℕ × ℕ)) (p : LegalFrame goose_observable x) → LegalOne (goose_inspection x p)
 unfolding goose_frame_of goose_inspection LegalOne
 goose_frame_legal x p = record {
   source = address_octets_lem x.0.0;
-  control_block_octets = array_padded x.0.1 (length x.0.1) p.0.1.octets;
-  control_block_length = omega (arith, p.0.1.short);
+  control_block_octets = array_padded p.0.1.name (length p.0.1.name) p.0.1.named.octets;
+  control_block_length = omega (arith, p.0.1.named.short);
   state_number = p.1.0;
   sequence_number = p.1.1;
   time = omega arith;
@@ -187,16 +187,16 @@ goose_frame_legal x p = record {
 }
 
 module _ (m : Monitor) where
-  pub goose_reaches_lem : (x : (ℕ × List ℕ) × (ℕ × ℕ)) (p : LegalFrame goose_observable x) → goose_reaches m (goose_inspection x p) ≡ x ∷ []
+  pub goose_reaches_lem : (x : (ℕ × ℕ) × (ℕ × ℕ)) (p : LegalFrame goose_observable x) → goose_reaches m (goose_inspection x p) ≡ x ∷ []
   unfolding goose_frame_of goose_inspection
   goose_reaches_lem x p =
-      rw (and-false (block_test_frames m), address_back x.0.0 p.0.0, name_padded x.0.1 p.0.1.short)
+      rw (and-false (block_test_frames m), address_back x.0.0 p.0.0, name_padded p.0.1.name p.0.1.named.short, p.0.1.hashes)
 
-  pub goose_answer_lem : (l : RememberedLists) (x : (ℕ × List ℕ) × (ℕ × ℕ)) (p : LegalFrame goose_observable x)
-      → list_answer m l (goose_inspection x p) ≡ answer streams≟ goose_answer l.goose_streams x
+  pub goose_answer_lem : (l : RememberedLists) (x : (ℕ × ℕ) × (ℕ × ℕ)) (p : LegalFrame goose_observable x)
+      → list_answer m l (goose_inspection x p) ≡ answer pairs≟ goose_answer l.goose_streams x
   unfolding goose_frame_of goose_inspection has_clock
   goose_answer_lem l x p =
-      rw (and-false (block_test_frames m), address_back x.0.0 p.0.0, name_padded x.0.1 p.0.1.short)
+      rw (and-false (block_test_frames m), address_back x.0.0 p.0.0, name_padded p.0.1.name p.0.1.named.short, p.0.1.hashes)
 
   pub goose_further : (l l' : RememberedLists) → ListsDistinguished goose_observable 16 l.goose_streams l'.goose_streams → Further m l l'
   goose_further l l' d =
@@ -207,12 +207,12 @@ module _ (m : Monitor) where
       fillers = made goose_inspection d.fillers d.legal
 
       at : (z : RememberedLists) → list_answer m (foldl (lists_after m) z fillers) (goose_inspection d.last d.legal_last)
-          ≡ answer streams≟ goose_answer (foldl touch_goose z.goose_streams d.fillers) d.last
+          ≡ answer pairs≟ goose_answer (foldl touch_goose z.goose_streams d.fillers) d.last
       at z =
           goose_answer_lem (foldl (lists_after m) z fillers) d.last d.legal_last
-          ∙ ap (λ (y : List ((ℕ × List ℕ) × (ℕ × ℕ))). answer streams≟ goose_answer y d.last)
+          ∙ ap (λ (y : List ((ℕ × ℕ) × (ℕ × ℕ))). answer pairs≟ goose_answer y d.last)
           (ap (λ (y : RememberedLists). y.goose_streams) (moved m z fillers)
-          ∙ ap (λ (xs : List ((ℕ × List ℕ) × (ℕ × ℕ))). foldl touch_goose z.goose_streams xs)
+          ∙ ap (λ (xs : List ((ℕ × ℕ) × (ℕ × ℕ))). foldl touch_goose z.goose_streams xs)
           (reaching_made goose_inspection (goose_reaches m) goose_reaches_lem d.fillers d.legal))
 
 -- ---- clocks: an SV frame of the empty name, whose stream is the same on both sides
@@ -329,7 +329,11 @@ module _ (m : Monitor) where
         (
           (
             address_fits f.src_mac g.0.source,
-            legal_name 0 f.go_cb_ref f.go_cb_ref_len (omega arith) g.0.control_block_octets,
+            record {
+              name = control_block f;
+              named = legal_name 0 f.go_cb_ref f.go_cb_ref_len (omega arith) g.0.control_block_octets;
+              hashes = refl;
+            },
           ),
           (g.0.state_number, g.0.sequence_number),
         ),
@@ -363,7 +367,7 @@ module _ (m : Monitor) (range : JumpLimit (time_max_forward_jump m)) where
       → Further m (monitor_lists m h) (monitor_lists m h')
   further_lists h h' g g' n =
       go (decide_list (decide_pair names≟ ℕ_discrete) l.sv_streams l'.sv_streams)
-      (decide_list (decide_pair streams≟ pairs≟) l.goose_streams l'.goose_streams)
+      (decide_list (decide_pair pairs≟ pairs≟) l.goose_streams l'.goose_streams)
     where
       l : RememberedLists
       l = monitor_lists m h
@@ -389,7 +393,7 @@ module _ (m : Monitor) (range : JumpLimit (time_max_forward_jump m)) where
 pub lists≟ : Discrete RememberedLists
 lists≟ l l' =
     go (decide_list (decide_pair names≟ ℕ_discrete) l.sv_streams l'.sv_streams)
-    (decide_list (decide_pair streams≟ pairs≟) l.goose_streams l'.goose_streams)
+    (decide_list (decide_pair pairs≟ pairs≟) l.goose_streams l'.goose_streams)
     (decide_list (decide_pair ℕ_discrete pairs≟) l.clocks l'.clocks)
   where
     go : Dec (l.sv_streams ≡ l'.sv_streams) → Dec (l.goose_streams ≡ l'.goose_streams) → Dec (l.clocks ≡ l'.clocks) → Dec (l ≡ l')

@@ -2,7 +2,7 @@
 use Prim.Native.Nat.{ℕ, zero, suc, ◌+◌, ◌*◌, ◌^◌, ◌<◌}
 use mathlib.Core.Bool.{Bool, true, false}
 use mathlib.Core.List.{List, [], ◌∷◌, ◌++◌, map}
-use mathlib.Core.Path.{◌≡◌, refl, ap}
+use mathlib.Core.Path.{◌≡◌, refl, ap, ◌∙◌}
 use native.Mathlib.Decide.{ℕ_discrete, dec_lt}
 use native.Mathlib.Omega.{arith}
 use lib.ListN.{length, get_or, replicate, length-replicate}
@@ -10,6 +10,7 @@ use Rattle.records.specs.declared.frame.GooseFrame.{GooseFrame}
 use Rattle.records.specs.declared.frame.SvFrame.{SvFrame}
 use Rattle.records.specs.Alert.{denies}
 use Rattle.records.specs.Decide.{decide_pair, decide_list}
+use Rattle.records.specs.Hash.{fnv1a, hash_from, hash_step}
 use Rattle.records.specs.Legal.{LegalGoose, LegalSv, OctetArray}
 use Rattle.records.specs.Name.{padded}
 use Rattle.records.specs.Octets.{octet_at, tabulate}
@@ -169,10 +170,10 @@ station_history =
 
 station_lists : remembered_lists true station_history ≡ record {
   sv_streams = (65 ∷ [], 7233) ∷ [];
-  goose_streams = ((1 * 2 ^ 40, 71 ∷ []), (5, 2)) ∷ [];
+  goose_streams = ((1 * 2 ^ 40, 0xC20BF3A6), (5, 2)) ∷ [];
   clocks = (1 * 2 ^ 40, (3691, 0)) ∷ [];
 }
-unfolding station_history message frame ℕ_discrete decide_list decide_pair
+unfolding station_history message frame ℕ_discrete decide_list decide_pair fnv1a hash_from hash_step
 station_lists = refl
 
 station_legal : Legal station_history
@@ -191,7 +192,7 @@ station_legal =
 station_answers : answers (configured_monitor true settings) station_history
     ≡ (true, []) ∷ (false, 3 ∷ []) ∷ (false, 6 ∷ []) ∷ (false, 31 ∷ []) ∷ (false, 26 ∷ []) ∷ (false, 31 ∷ 27 ∷ []) ∷ (false, 27 ∷ []) ∷ (true, 27 ∷ []) ∷ []
 unfolding station_history message frame settings set_block_test_frames set_sv_max_smp_cnt_gap set_time_max_forward_jump mms_added_on
-    ℕ_discrete decide_list decide_pair replays count_outcome is_replay count_findings has_clock earlier address_of denies
+    ℕ_discrete decide_list decide_pair fnv1a hash_from hash_step replays count_outcome is_replay count_findings has_clock earlier address_of denies
 station_answers = answers_remembered true settings premises [] station_history tt station_legal
 
 -- ---- seventeen streams, of which the first is forgotten; it comes again, with a lower count, afresh, and the second is forgotten

@@ -12,6 +12,7 @@ use lib.Dec.{ltb}
 use lib.ListN.{get_or}
 use Rattle.records.specs.declared.alert.AlertSeverity.TheVariants.{Medium}
 use Rattle.records.specs.declared.alert.AlertCode.TheVariants.{SvRateAnomaly}
+use Rattle.records.specs.Hash.{fnv1a}
 use Rattle.records.specs.Legal.{Octets}
 use Rattle.records.specs.Remembered.{after}
 use Rattle.records.proofs.Booleans.{cond_holds}
@@ -27,7 +28,7 @@ use Rattle.inspection.specs.Report.{refusal}
 use Rattle.demand3.specs.Demand3.{Answer, JumpLimit}
 use Rattle.demand3.proofs.AnswerLaws.{answer_from}
 use Rattle.demand3.proofs.MonitorTerms.{count_after, numbers_after}
-use Rattle.demand3.proofs.RememberedLaws.{names≟, pairs≟, streams≟, replayed}
+use Rattle.demand3.proofs.RememberedLaws.{names≟, pairs≟, replayed}
 
 -- ---- keys that a legal frame has
 
@@ -39,6 +40,12 @@ Name = LegalKey 0
 abbrev pub AddressNumber : ℕ → Type 0
 AddressNumber address = address < 2 ^ 48
 
+-- the hash of a name
+pub record Hash (hash : ℕ) : Type 0 where
+  pub name : List ℕ
+  pub named : Name name
+  pub hashes : fnv1a name ≡ hash
+
 pub one_octet : (j : ℕ) → j < 256 → Name (j ∷ [])
 one_octet j h = record { width = omega arith; short = omega arith; octets = below }
   where
@@ -46,8 +53,8 @@ one_octet j h = record { width = omega arith; short = omega arith; octets = belo
     below zero = h
     below (suc k) = omega arith
 
-pub no_name : Name []
-no_name = record { width = omega arith; short = omega arith; octets = octets_none }
+pub no_name : Hash (fnv1a [])
+no_name = record { name = []; named = record { width = omega arith; short = omega arith; octets = octets_none }; hashes = refl }
 
 -- ---- what may be known of a key
 
@@ -172,18 +179,18 @@ pub goose_known : (o : Option (ℕ × ℕ)) (i : ℕ × ℕ) → Holding Numbers
 goose_known none i h l = l
 goose_known (some w) i h l = cond_holds Numbers (replays w i) {x = w} {y = i} h l
 
-abbrev pub goose_observable : Observable streams≟ 16 (λ n. n) numbers_after goose_answer
+abbrev pub goose_observable : Observable pairs≟ 16 (λ n. n) numbers_after goose_answer
 goose_observable = record {
-  Key = λ k. AddressNumber k.0 × Name k.1;
+  Key = λ k. AddressNumber k.0 × Hash k.1;
   Input = Numbers;
   Known = Holding Numbers;
   known_none = tt;
   known_after = goose_known;
   separating = goose_separating;
   dec_w = pairs≟;
-  key = λ j. (j, []);
+  key = λ j. (j, fnv1a []);
   key_legal = λ j h. (omega arith, no_name);
-  key_injective = λ j k e. ap (λ (x : ℕ × List ℕ). x.0) e;
+  key_injective = λ j k e. ap (λ (x : ℕ × ℕ). x.0) e;
   input = (0, 0);
   input_legal = (omega arith, omega arith);
 }

@@ -33,7 +33,7 @@ use Rattle.monitor.specs.Totals.{frame_counted, with_alerts, counted_goose, coun
 use Rattle.inspection.specs.declared.inspect_goose.GooseNumbers.{GooseNumbers}
 use Rattle.inspection.specs.declared.report.RuleCheck.TheVariants.{Rate}
 use Rattle.inspection.specs.Address.{address_of}
-use Rattle.inspection.specs.InspectGoose.{goose_read, goose_pair, timed_numbers, stream_findings, retransmitted, goose_time_field}
+use Rattle.inspection.specs.InspectGoose.{goose_read, goose_pair, stream_key, timed_numbers, stream_findings, retransmitted, goose_time_field}
 use Rattle.inspection.specs.InspectGoose.{goose_reservation, goose_unknown, goose_allowed, blocked, goose_test, inspect_goose}
 use Rattle.inspection.specs.InspectSv.{sv_read, svid_of, sv_pair, rate_findings, count_findings, sv_time_field, sv_reservation, sv_rule, sv_binding, inspect_sv}
 use Rattle.inspection.specs.Report.{Finding, Checked, refusal, clock_findings, ended, reported}
@@ -48,7 +48,7 @@ module _ (m : Monitor) (v : Remembering) where
   clock_of mac pair = time_checked v.time_trackers (time_max_forward_jump m) (address_of mac) pair
 
   abbrev pub stream_of : GooseFrame → GooseChecked
-  stream_of f = goose_checked v.goose_seq (goose_read f).stream (timed_numbers (goose_read f).numbers)
+  stream_of f = goose_checked v.goose_seq (stream_key (goose_read f).numbers) (timed_numbers (goose_read f).numbers)
 
   abbrev pub count_of : SvFrame → SvChecked
   count_of f = sv_checked v.sv_seq (plain_key (svid_of f)) f.smp_cnt
@@ -121,9 +121,9 @@ module _ {m n : Monitor} (q : Plain m n) where
   unfolding sv_rule
   no_publisher address svid = let e = q.premises.no_sv_publisher in rw (not_registered n.sv_publishers address svid e, e, and-false)
 
-not_asked : (m : Monitor) (stream : List ℕ) (n : GooseNumbers) → retx_enforce m ≡ false → retransmitted m stream n ≡ false
+not_asked : (m : Monitor) (n : GooseNumbers) → retx_enforce m ≡ false → retransmitted m n ≡ false
 unfolding retransmitted
-not_asked m stream n e = rw e
+not_asked m n e = rw e
 
 -- ---- one inspection
 
@@ -143,14 +143,13 @@ module _ {m n : Monitor} (q : Plain m n) where
   goose_checks f =
       rw (q.premises.no_goose_publisher, no_hijack (counted_plain q 1) (goose_read f).reservation (goose_read f).numbers.address) (go (blocked n f.test))
     where
-      go : (b : Bool)
-          → cond b (ended (counted_goose n) (refusal Medium PolicyViolation ∷ [])) (goose_time_field (goose_read f).stream (goose_read f).numbers (counted_goose n))
+      go : (b : Bool) → cond b (ended (counted_goose n) (refusal Medium PolicyViolation ∷ [])) (goose_time_field (goose_read f).numbers (counted_goose n))
           ≡ ended (with_tables (counted_goose n) (cond b (remembering n) (unblocked n (remembering n) f)))
           (cond b (refusal Medium PolicyViolation ∷ []) (unblocked_findings n (remembering n) f))
       go true = refl
       go false =
           let clocked = with_time_trackers (counted_goose n) (clock_of n (remembering n) f.src_mac (goose_pair f)).table in
-          rw (not_asked clocked (goose_read f).stream (goose_read f).numbers q.premises.not_enforced)
+          rw (not_asked clocked (goose_read f).numbers q.premises.not_enforced)
 
 -- only the settings count
 module _ {m n : Monitor} (q : Plain m n) (v : Remembering) where

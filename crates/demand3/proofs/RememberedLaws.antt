@@ -19,7 +19,7 @@ use Rattle.tables.specs.Order.{no_entries}
 use Rattle.tables.specs.Table.{value_of, stepped}
 use Rattle.tables.proofs.KeyedTables.{Holds, holds_none, holds_after, value_held}
 use Rattle.tables.proofs.KeyLaws.{LegalKey, legal_name}
-use Rattle.tables.proofs.KeyMaps.{by_name, by_number_and_name, by_number}
+use Rattle.tables.proofs.KeyMaps.{by_name, by_two_numbers, by_number}
 use Rattle.tables.proofs.WordTables.{one_laws, two_laws, three_laws, length_none, rank_none}
 use Rattle.checks.specs.GooseSeq.{replays, goose_replay, kept_numbers, goose_checked}
 use Rattle.checks.specs.Keys.{plain_key, goose_key}
@@ -31,11 +31,10 @@ use Rattle.inspection.specs.Address.{address_of}
 use Rattle.inspection.specs.InspectGoose.{goose_numbers, goose_pair, stream_findings, blocked}
 use Rattle.inspection.specs.InspectSv.{svid_of, sv_pair, count_findings}
 use Rattle.inspection.specs.Report.{Finding, refusal, clock_findings}
-use Rattle.inspection.proofs.AddressLaws.{goose_stream_of, stream_legal}
 use Rattle.demand3.specs.Demand3.{Inspection, goose, sv, Legal, Answer, reaching, RememberedLists}
 use Rattle.demand3.proofs.AnswerLaws.{answer_from}
 use Rattle.demand3.proofs.LegalLaws.{LegalOne, legal_parts}
-use Rattle.demand3.proofs.MonitorTerms.{sv_reaches, goose_reaches, if_clock, clock_reaches, count_after, numbers_after, monitor_lists}
+use Rattle.demand3.proofs.MonitorTerms.{sv_reaches, goose_stream_of, goose_reaches, if_clock, clock_reaches, count_after, numbers_after, monitor_lists}
 use Rattle.demand3.proofs.PlainMonitor.{unblocked, next, findings, next_all, answers_from}
 use Rattle.demand3.proofs.Remembering.{Remembering, new_remembering}
 
@@ -47,14 +46,11 @@ names≟ = decide_list ℕ_discrete
 abbrev pub pairs≟ : Discrete (ℕ × ℕ)
 pairs≟ = decide_pair ℕ_discrete ℕ_discrete
 
-abbrev pub streams≟ : Discrete (ℕ × List ℕ)
-streams≟ = decide_pair ℕ_discrete names≟
-
 abbrev pub touch_sv : List (List ℕ × ℕ) → List ℕ × ℕ → List (List ℕ × ℕ)
 touch_sv = touch names≟ 16 (λ n. n) count_after
 
-abbrev pub touch_goose : List ((ℕ × List ℕ) × (ℕ × ℕ)) → (ℕ × List ℕ) × (ℕ × ℕ) → List ((ℕ × List ℕ) × (ℕ × ℕ))
-touch_goose = touch streams≟ 16 (λ n. n) numbers_after
+abbrev pub touch_goose : List ((ℕ × ℕ) × (ℕ × ℕ)) → (ℕ × ℕ) × (ℕ × ℕ) → List ((ℕ × ℕ) × (ℕ × ℕ))
+touch_goose = touch pairs≟ 16 (λ n. n) numbers_after
 
 abbrev pub touch_clock : List (ℕ × (ℕ × ℕ)) → ℕ × (ℕ × ℕ) → List (ℕ × (ℕ × ℕ))
 touch_clock = touch ℕ_discrete 16 (λ p. p) (λ kept p. p)
@@ -82,7 +78,7 @@ module _ (m : Monitor) where
   list_findings l (goose f) =
       cond (blocked m f.test) (refusal Medium PolicyViolation ∷ [])
       (clock_findings (clock_answer l.clocks (address_of f.src_mac) (goose_pair f))
-      ++ stream_findings (replayed (lookup streams≟ (goose_stream_of f) l.goose_streams) (goose_numbers f)) false)
+      ++ stream_findings (replayed (lookup pairs≟ (goose_stream_of f) l.goose_streams) (goose_numbers f)) false)
   list_findings l (sv f) =
       clock_findings (clock_answer l.clocks (address_of f.src_mac) (sv_pair f))
       ++ count_findings (sv_max_smp_cnt_gap m) [] (sv_outcome (lookup names≟ (svid_of f) l.sv_streams) f.smp_cnt)
@@ -113,7 +109,7 @@ pub remembered_lists_lem : (m : Monitor) (h : List Inspection) → foldl (lists_
 remembered_lists_lem m h =
     moved m no_lists h ∙ (λ i. record {
       sv_streams = by_last_use names≟ 16 (λ n. n) count_after (reaching sv_reaches h) i;
-      goose_streams = by_last_use streams≟ 16 (λ n. n) numbers_after (reaching (goose_reaches m) h) i;
+      goose_streams = by_last_use pairs≟ 16 (λ n. n) numbers_after (reaching (goose_reaches m) h) i;
       clocks = by_last_use ℕ_discrete 16 (λ p. p) (λ kept p. p) (reaching (clock_reaches m) h) i;
     })
 
@@ -139,9 +135,9 @@ module _ {t : List ℕ} {l : List (List ℕ × ℕ)} (r : HoldsSv t l) (f : SvFr
 abbrev numbers_of : (ℕ × ℕ) × ℕ → ℕ × ℕ
 numbers_of w = w.0
 
-pub record HoldsGoose (t : List ℕ) (l : List ((ℕ × List ℕ) × (ℕ × ℕ))) : Type 0 where
-  pub timed : List ((ℕ × List ℕ) × ((ℕ × ℕ) × ℕ))
-  pub holds : Holds (by_number_and_name three_laws) t timed
+pub record HoldsGoose (t : List ℕ) (l : List ((ℕ × ℕ) × (ℕ × ℕ))) : Type 0 where
+  pub timed : List ((ℕ × ℕ) × ((ℕ × ℕ) × ℕ))
+  pub holds : Holds (by_two_numbers three_laws) t timed
   pub numbers : parts numbers_of timed ≡ l
 
 kept_numbers_lem : (w i : (ℕ × ℕ) × ℕ) → numbers_of (kept_numbers w i) ≡ numbers_after (numbers_of w) (numbers_of i)
@@ -155,24 +151,24 @@ replay_numbers : (o : Option ((ℕ × ℕ) × ℕ)) (new : ℕ × ℕ) → goose
 replay_numbers none new = refl
 replay_numbers (some last) new = refl
 
-module _ {t : List ℕ} {l : List ((ℕ × List ℕ) × (ℕ × ℕ))} (r : HoldsGoose t l) (k : ℕ × List ℕ) (g : LegalKey k.0 k.1) (new : (ℕ × ℕ) × ℕ) where
+module _ {t : List ℕ} {l : List ((ℕ × ℕ) × (ℕ × ℕ))} (r : HoldsGoose t l) (k : ℕ × ℕ) (new : (ℕ × ℕ) × ℕ) where
   goose_next : HoldsGoose (goose_checked t (goose_key k.0 k.1) new).table (touch_goose l (k, new.0))
   unfolding goose_checked
   goose_next = record {
-    timed = touch streams≟ 16 (λ n. n) kept_numbers r.timed (k, new);
-    holds = holds_after (by_number_and_name three_laws) (λ n. n) kept_numbers r.holds (k, new) g;
+    timed = touch pairs≟ 16 (λ n. n) kept_numbers r.timed (k, new);
+    holds = holds_after (by_two_numbers three_laws) (λ n. n) kept_numbers r.holds (k, new) tt;
     numbers =
-        sym (touch_parts numbers_of numbers_of streams≟ 16 (λ n. n) kept_numbers (λ n. n) numbers_after (λ i. refl) kept_numbers_lem r.timed k new)
-        ∙ ap (λ (z : List ((ℕ × List ℕ) × (ℕ × ℕ))). touch_goose z (k, new.0)) r.numbers;
+        sym (touch_parts numbers_of numbers_of pairs≟ 16 (λ n. n) kept_numbers (λ n. n) numbers_after (λ i. refl) kept_numbers_lem r.timed k new)
+        ∙ ap (λ (z : List ((ℕ × ℕ) × (ℕ × ℕ))). touch_goose z (k, new.0)) r.numbers;
   }
 
-  goose_replay_lem : (goose_checked t (goose_key k.0 k.1) new).replay ≡ replayed (lookup streams≟ k l) new.0
+  goose_replay_lem : (goose_checked t (goose_key k.0 k.1) new).replay ≡ replayed (lookup pairs≟ k l) new.0
   unfolding goose_checked
   goose_replay_lem =
-      ap (λ (o : Option ((ℕ × ℕ) × ℕ)). goose_replay o new.0) (value_held (by_number_and_name three_laws) r.holds k g)
-      ∙ replay_numbers (lookup streams≟ k r.timed) new.0
-      ∙ ap (λ (o : Option (ℕ × ℕ)). replayed o new.0) (sym (lookup_parts numbers_of streams≟ k r.timed))
-      ∙ ap (λ (z : List ((ℕ × List ℕ) × (ℕ × ℕ))). replayed (lookup streams≟ k z) new.0) r.numbers
+      ap (λ (o : Option ((ℕ × ℕ) × ℕ)). goose_replay o new.0) (value_held (by_two_numbers three_laws) r.holds k tt)
+      ∙ replay_numbers (lookup pairs≟ k r.timed) new.0
+      ∙ ap (λ (o : Option (ℕ × ℕ)). replayed o new.0) (sym (lookup_parts numbers_of pairs≟ k r.timed))
+      ∙ ap (λ (z : List ((ℕ × ℕ) × (ℕ × ℕ))). replayed (lookup pairs≟ k z) new.0) r.numbers
 
 -- ---- clocks
 
@@ -229,7 +225,7 @@ module _ (m : Monitor) {v : Remembering} {l : RememberedLists} (r : Remembers v 
       go true = r
       go false = record {
         sv_seq = r.sv_seq;
-        goose_seq = goose_next r.goose_seq (goose_stream_of f) (stream_legal f g) (goose_numbers f, f.timestamp_us);
+        goose_seq = goose_next r.goose_seq (goose_stream_of f) (goose_numbers f, f.timestamp_us);
         time_trackers = clock_next r.time_trackers (time_max_forward_jump m) (address_of f.src_mac) (goose_pair f);
       }
 
@@ -240,7 +236,7 @@ module _ (m : Monitor) {v : Remembering} {l : RememberedLists} (r : Remembers v 
   findings_lists (goose f) g =
       rw (
         clock_alert_lem r.time_trackers (time_max_forward_jump m) (address_of f.src_mac) (goose_pair f),
-        goose_replay_lem r.goose_seq (goose_stream_of f) (stream_legal f g) (goose_numbers f, f.timestamp_us),
+        goose_replay_lem r.goose_seq (goose_stream_of f) (goose_numbers f, f.timestamp_us),
       )
 
 module _ (m : Monitor) where
@@ -261,7 +257,7 @@ remembers_new = record {
   sv_seq = holds_none (by_name one_laws 0) (no_entries 178) (length_none 178) (rank_none 178 (omega arith));
   goose_seq = record {
     timed = [];
-    holds = holds_none (by_number_and_name three_laws) (no_entries 210) (length_none 210) (rank_none 210 (omega arith));
+    holds = holds_none (by_two_numbers three_laws) (no_entries 210) (length_none 210) (rank_none 210 (omega arith));
     numbers = refl;
   };
   time_trackers = holds_none (by_number two_laws) (no_entries 50) (length_none 50) (rank_none 50 (omega arith));

@@ -1,7 +1,7 @@
 -- Demand 3 (01, "Remembered tables"): two histories leave equal remembered lists exactly when every further list of inspections gets equal answers.
 -- A history has its earliest frame first. A remembered list has its latest frame first, and so has the past that `remembered` reads: `latest16` turns
 -- the frames round. What is read of a frame is said here in 01's words; that the monitor reads the same is proved (proofs/Agreement.antt). Of the
--- monitor the claim uses its inspections, three settings and the numbers of publishers; of the port besides the numbers of codes.
+-- monitor the claim uses its inspections, three settings and the numbers of publishers; of the port besides FNV-1a and the numbers of codes.
 use Rattle.std.specs.Prelude.{ℕ, min, ◌+◌, ◌*◌, ◌-◌, ◌≤◌, Bool, false, ◌&&◌, ◌||◌, cond, ◌≢◌, ◌↔◌, ◌≡◌, eqb, ltb, leb, length, take}
 use mathlib.Core.List.{List, [], ◌∷◌, ◌++◌, map, foldl, reverse}
 use Rattle.std.proofs.Math.Decide.{ℕ_discrete}
@@ -11,6 +11,7 @@ use Rattle.records.specs.declared.frame.SvFrame.{SvFrame}
 use Rattle.records.specs.declared.result.InspectResult.{InspectResult}
 use Rattle.records.specs.Alert.{code_number}
 use Rattle.records.specs.Decide.{decide_pair, decide_list}
+use Rattle.records.specs.Hash.{fnv1a}
 use Rattle.records.specs.Legal.{LegalGoose, LegalSv}
 use Rattle.records.specs.Remembered.{remembered}
 use Rattle.checks.specs.GoosePublisher.{goose_publisher_count}
@@ -77,18 +78,12 @@ SvId = List ℕ
 abbrev pub sv_id : SvFrame → SvId
 sv_id f = name f.svid f.svid_len
 
--- a GOOSE stream is keyed by its address and its control block's name (request 8)
-abbrev pub ControlBlock : Type 0
-ControlBlock = List ℕ
-
-abbrev pub control_block : GooseFrame → ControlBlock
-control_block f = name f.go_cb_ref f.go_cb_ref_len
-
+-- a GOOSE stream is keyed by its address and FNV-1a of its control block's name
 abbrev pub GooseKey : Type 0
-GooseKey = Address × ControlBlock
+GooseKey = Address × ℕ
 
 abbrev pub goose_key : GooseFrame → GooseKey
-goose_key f = (address f.src_mac, control_block f)
+goose_key f = (address f.src_mac, fnv1a (name f.go_cb_ref f.go_cb_ref_len))
 
 abbrev pub StNumSqNum : Type 0
 StNumSqNum = ℕ × ℕ
@@ -172,7 +167,7 @@ abbrev pub remembered_lists : Bool → List Inspection → RememberedLists
 remembered_lists blocking h =
     record {
       sv_streams = latest16 (decide_list ℕ_discrete) count_after (reaching sv_reaches h);
-      goose_streams = latest16 (decide_pair ℕ_discrete (decide_list ℕ_discrete)) numbers_after (reaching (goose_reaches blocking) h);
+      goose_streams = latest16 (decide_pair ℕ_discrete ℕ_discrete) numbers_after (reaching (goose_reaches blocking) h);
       clocks = latest16 ℕ_discrete pair_after (reaching (clock_reaches blocking) h);
     }
 

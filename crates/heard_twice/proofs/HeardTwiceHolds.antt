@@ -17,7 +17,6 @@ use Rattle.monitor.specs.Settings.{new_settings}
 use Rattle.monitor.specs.Totals.{frame_counted, with_alerts, counted_goose, counted_sv}
 use Rattle.monitor.proofs.Bijection.{words_sized}
 use Rattle.inspection.specs.Calls.{Call, called, after_calls}
-use Rattle.inspection.specs.Address.{address_of}
 use Rattle.inspection.specs.InspectGoose.{goose_read, control_block, goose_test, inspect_goose}
 use Rattle.inspection.specs.InspectSv.{sv_read, svid_of, dataset_of, sv_binding, inspect_sv, parsed_inspected, inspect_raw_sv}
 use Rattle.inspection.specs.Report.{reported}
@@ -53,7 +52,7 @@ module _ (m : Monitor) (z : Sized m) (time time' : ℕ) where
   unfolding inspect_goose reported with_alerts frame_counted
   goose_checked_lem f =
       goose_again (counted_goose m) (counted_goose (inspect_goose m (goose_at f time)).monitor).totals z.cb_reservations z.time_trackers
-      (goose_read (goose_at f time)) time' z.goose_seq (key_words 1 (control_block f)) (key_words (address_of f.src_mac) (control_block f))
+      (goose_read (goose_at f time)) time' z.goose_seq (key_words 1 (control_block f))
 
   goose_second : (f : GooseFrame) → second_answer m (goose f) time time' ≡ refused_again 3 (first_answer m (goose f) time)
   goose_second f =

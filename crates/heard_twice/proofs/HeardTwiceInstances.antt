@@ -9,6 +9,7 @@ use Rattle.records.specs.declared.frame.GooseFrame.{GooseFrame}
 use Rattle.records.specs.declared.frame.SvFrame.{SvFrame}
 use Rattle.records.specs.declared.service.MmsServiceType.TheVariants.{SelectControl}
 use Rattle.records.specs.Alert.{denies, alert_of, no_alert}
+use Rattle.records.specs.Hash.{fnv1a, hash_from, hash_step}
 use Rattle.records.specs.Octets.{tabulate, agree, overwritten}
 use Rattle.records.specs.Result.{clean_result, allowed_with, counted, with_alert, pushed}
 use Rattle.records.specs.Schedule.{default_schedule, expected_interval, within_tolerance}
@@ -163,7 +164,7 @@ rows =
     ∷ []
 
 instances : map (λ (r : List Answer × List Answer). r.0) rows ≡ map (λ (r : List Answer × List Answer). r.1) rows
-unfolding rows both expected mac sample in_set message select registered octets39 denies alert_of no_alert tabulate agree
+unfolding rows both expected mac sample in_set message select registered octets39 denies alert_of no_alert fnv1a hash_from hash_step tabulate agree
     overwritten clean_result allowed_with counted with_alert pushed expected_interval within_tolerance first_from last_below element elements_of first_content
     head_of length_of opened within apdu_of appid_at header source_of big_endian_from field_fits overlaid with_field refused_sv fields_from apdu_frame sv_frame
     word_of word_set zero_words name_word summed key_of has_key key_stored free_slot new_slot rank_of reranked rank_set used_slot no_entries packed found

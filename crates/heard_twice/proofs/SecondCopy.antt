@@ -21,7 +21,7 @@ use Rattle.inspection.specs.declared.report.CheckAlert.TheVariants.{TestBlocked,
 use Rattle.inspection.specs.declared.report.CheckAlert.TheVariants.{WrongIed, UnknownSvid, CountReplay, CountGap, SuspiciousCount, RateMismatch}
 use Rattle.inspection.specs.declared.report.RuleCheck.{RuleCheck}
 use Rattle.inspection.specs.declared.report.RuleCheck.TheVariants.{Refused, Rate}
-use Rattle.inspection.specs.InspectGoose.{GooseRead, timed_numbers, stream_findings, retransmitted, goose_time_field, goose_reservation, goose_unknown}
+use Rattle.inspection.specs.InspectGoose.{GooseRead, stream_key, timed_numbers, stream_findings, retransmitted, goose_time_field, goose_reservation, goose_unknown}
 use Rattle.inspection.specs.InspectGoose.{goose_allowed, blocked, goose_test}
 use Rattle.inspection.specs.InspectSv.{SvRead, rate_findings, count_findings, sv_time_field, sv_reservation, sv_matched, sv_rule, sv_binding}
 use Rattle.inspection.specs.Report.{Finding, Checked, finding_of, findings_of, clock_findings, ended, permitted}
@@ -81,6 +81,7 @@ abbrev pub numbers_at : GooseNumbers → ℕ → GooseNumbers
 numbers_at n time =
     record {
       address = n.address;
+      hash = n.hash;
       st_num = n.st_num;
       sq_num = n.sq_num;
       test = n.test;
@@ -90,13 +91,13 @@ numbers_at n time =
     }
 
 abbrev pub read_at : GooseRead → ℕ → GooseRead
-read_at f time = record { publisher = f.publisher; reservation = f.reservation; stream = f.stream; numbers = numbers_at f.numbers time }
+read_at f time = record { publisher = f.publisher; reservation = f.reservation; numbers = numbers_at f.numbers time }
 
 -- the checks by whether a frame is blocked, and whether its publisher is unknown
 abbrev goose_by : Bool → Bool → Monitor → GooseRead → Checked
 goose_by is_blocked is_unknown m f =
     cond is_blocked (ended m (findings_of TestBlocked))
-    (cond is_unknown (ended m (findings_of UnknownPublisher)) (goose_reservation f m))
+    (cond is_unknown (ended m (findings_of UnknownPublisher)) (goose_reservation f.numbers f.reservation m))
 
 goose_by_lem : (m : Monitor) (f : GooseRead) {b u : Bool} → blocked m f.numbers.test ≡ b → goose_unknown m f.numbers.address f.publisher ≡ u
     → goose_test m f ≡ goose_by b u m f
@@ -104,31 +105,30 @@ unfolding goose_test goose_allowed
 goose_by_lem m f p q = λ i. goose_by (p i) (q i) m f
 
 module _ (m : Monitor) (totals : List ℕ) (cb : length m.cb_reservations ≡ 210) (clocks : length m.time_trackers ≡ 50) where
-  module _ (f : GooseRead) (time : ℕ) (streams : length m.goose_seq ≡ 210) (g : length f.reservation ≡ 10) (k : length f.stream ≡ 10) where
-    goose_reserved :
-        Again 3 (goose_reservation f m).answer (goose_reservation (read_at f time) (with_totals (goose_reservation f m).monitor totals)).answer
+  module _ (n : GooseNumbers) (time : ℕ) (streams : length m.goose_seq ≡ 210) where
+    goose_reserved : (key : List ℕ) → length key ≡ 10
+        → Again 3 (goose_reservation n key m).answer
+        (goose_reservation (numbers_at n time) key (with_totals (goose_reservation n key m).monitor totals)).answer
     unfolding goose_reservation cb_on goose_time_field time_field_on goose_seq_on denies
-    goose_reserved = go (cb_on m f.reservation f.numbers.address).answer refl
+    goose_reserved key g = go (cb_on m key n.address).answer refl
       where
-        n : GooseNumbers
-        n = f.numbers
-
-        go : (hijack : Bool) → (cb_on m f.reservation f.numbers.address).answer ≡ hijack
-            → Again 3 (goose_reservation f m).answer (goose_reservation (read_at f time) (with_totals (goose_reservation f m).monitor totals)).answer
-        go true e = rw (e, use_again m.cb_reservations f.reservation n.address cb g ∙ e)
+        go : (hijack : Bool) → (cb_on m key n.address).answer ≡ hijack
+            → Again 3 (goose_reservation n key m).answer
+            (goose_reservation (numbers_at n time) key (with_totals (goose_reservation n key m).monitor totals)).answer
+        go true e = rw (e, use_again m.cb_reservations key n.address cb g ∙ e)
         go false e =
-            let clocked = time_field_on (cb_on m f.reservation n.address).monitor (time_max_forward_jump m) n.address (n.seconds, n.fraction) in
-            let stream = goose_seq_on clocked.monitor f.stream (timed_numbers n) in
-            let outside = retransmitted clocked.monitor f.stream n in
+            let clocked = time_field_on (cb_on m key n.address).monitor (time_max_forward_jump m) n.address (n.seconds, n.fraction) in
+            let stream = goose_seq_on clocked.monitor (stream_key n) (timed_numbers n) in
             rw (
               e,
-              use_again m.cb_reservations f.reservation n.address cb g ∙ e,
+              use_again m.cb_reservations key n.address cb g ∙ e,
               clock_again m.time_trackers (time_max_forward_jump m) n.address (n.seconds, n.fraction) clocks,
-              numbers_again m.goose_seq f.stream (n.st_num, n.sq_num) n.timestamp_us time streams k,
+              numbers_again m.goose_seq (stream_key n) (n.st_num, n.sq_num) n.timestamp_us time streams refl,
             )
-            (again_reached 3 (clock_findings clocked.answer ++ stream_findings stream.answer outside) (findings_of GooseReplay)
-            (clock_reached clocked.answer _ (stream_reached stream.answer outside)) refl)
+            (again_reached 3 (clock_findings clocked.answer ++ stream_findings stream.answer (retransmitted clocked.monitor n)) (findings_of GooseReplay)
+            (clock_reached clocked.answer _ (stream_reached stream.answer (retransmitted clocked.monitor n))) refl)
 
+  module _ (f : GooseRead) (time : ℕ) (streams : length m.goose_seq ≡ 210) (g : length f.reservation ≡ 10) where
     -- the monitor that the second copy meets
     abbrev goose_left : Monitor
     goose_left = with_totals (goose_test m f).monitor totals
@@ -152,7 +152,7 @@ module _ (m : Monitor) (totals : List ℕ) (cb : length m.cb_reservations ≡ 21
         go : (b u : Bool) → Again 3 (goose_by b u m f).answer (goose_by b u (with_totals (goose_by b u m f).monitor totals) (read_at f time)).answer
         go true u = refl
         go false true = refl
-        go false false = goose_reserved
+        go false false = goose_reserved f.numbers time streams f.reservation g
 
 -- ---- SV
 

@@ -1,15 +1,12 @@
--- Laws of source addresses: six octets and their number of 48 bits say the same. With a control block an address is a stream.
+-- Laws of source addresses: six octets and their number of 48 bits say the same.
 use Prim.Native.Nat.{ℕ, zero, suc, ◌+◌, ◌*◌, ◌/◌, ◌%◌, ◌^◌, ◌<◌}
 use mathlib.Core.List.{List, [], ◌∷◌}
 use mathlib.Core.Path.{◌≡◌, refl, sym, ◌∙◌, ap}
 use native.Mathlib.Omega.{arith}
 use lib.Seq.{ext_get_or}
-use Rattle.records.specs.declared.frame.GooseFrame.{GooseFrame}
-use Rattle.records.specs.Legal.{Octets, OctetArray, LegalGoose}
+use Rattle.records.specs.Legal.{Octets, OctetArray}
 use Rattle.records.specs.Octets.{octet_at}
-use Rattle.tables.proofs.KeyLaws.{LegalKey, legal_name}
 use Rattle.inspection.specs.Address.{address_of}
-use Rattle.inspection.specs.InspectGoose.{control_block}
 
 -- the six octets of a number, the most significant first
 unfoldable pub address_octets : ℕ → List ℕ
@@ -65,12 +62,3 @@ module _ (a : List ℕ) (o : OctetArray 6 a) where
 
 pub address_injective : (a b : List ℕ) → OctetArray 6 a → OctetArray 6 b → address_of a ≡ address_of b → a ≡ b
 address_injective a b oa ob e = sym (octets_back a oa) ∙ ap address_octets e ∙ octets_back b ob
-
--- the stream of a frame, by address and control block, makes a key
-abbrev pub goose_stream_of : GooseFrame → ℕ × List ℕ
-goose_stream_of f = (address_of f.src_mac, control_block f)
-
-pub stream_legal : (f : GooseFrame) → LegalGoose f → LegalKey (goose_stream_of f).0 (goose_stream_of f).1
-stream_legal f g =
-    legal_name (address_of f.src_mac) f.go_cb_ref f.go_cb_ref_len (omega (arith, address_fits f.src_mac g.source))
-    g.control_block_octets

@@ -19,7 +19,7 @@ use Rattle.inspection.specs.declared.report.CheckAlert.TheVariants.{OverRate, Bo
 use Rattle.inspection.specs.declared.report.RuleCheck.{RuleCheck}
 use Rattle.inspection.specs.declared.report.RuleCheck.TheVariants.{Refused, Rate}
 use Rattle.inspection.specs.InspectMms.{MmsRead, control_key, mms_reserved, releases, mms_control, over_rate, unless_over, mms_rate, mms_rule, mms_checks}
-use Rattle.inspection.specs.InspectGoose.{GooseRead, timed_numbers, stream_findings, retransmitted, goose_clock, goose_time_field}
+use Rattle.inspection.specs.InspectGoose.{GooseRead, stream_key, timed_numbers, stream_findings, retransmitted, goose_clock, goose_time_field}
 use Rattle.inspection.specs.InspectGoose.{goose_reservation, goose_unknown, goose_allowed, blocked, goose_test}
 use Rattle.inspection.specs.InspectSv.{SvRead, rate_findings, count_findings, sv_clock, sv_time_field, sv_reservation, sv_rule, sv_binding}
 use Rattle.inspection.specs.Report.{Finding, Checked, is_nothing, findings_of, clock_findings, ended, permitted, unless_hijacked}
@@ -146,23 +146,23 @@ pub mms_kept : (m : Monitor) (f : MmsRead) → Keeps m (mms_checks m f)
 unfolding mms_checks
 mms_kept m f = permits m (λ rate. mms_rate f rate m) (mms_rate_lem f m) (mms_rule m f.numbers.raw_service_type f.numbers.write)
 
-module _ (key : List ℕ) (n : GooseNumbers) where
-  goose_clock_lem : (c : After Bool) → Keeps c.monitor (goose_clock key n c)
+module _ (n : GooseNumbers) where
+  goose_clock_lem : (c : After Bool) → Keeps c.monitor (goose_clock n c)
   goose_clock_lem c =
-      let stream = goose_seq_on c.monitor key (timed_numbers n) in
-      let outside = retransmitted c.monitor key n in
+      let stream = goose_seq_on c.monitor (stream_key n) (timed_numbers n) in
+      let outside = retransmitted c.monitor n in
       record {
-        kept = goose_seq_kept c.monitor key (timed_numbers n);
+        kept = goose_seq_kept c.monitor (stream_key n) (timed_numbers n);
         few = both_few (clock_findings c.answer) (stream_findings stream.answer outside) (clock_few c.answer) (stream_few stream.answer outside);
       }
 
-  pub goose_time_field_lem : (m : Monitor) → Keeps m (goose_time_field key n m)
+  pub goose_time_field_lem : (m : Monitor) → Keeps m (goose_time_field n m)
   unfolding goose_time_field
   goose_time_field_lem m =
       keeps_then (clock_kept m (time_max_forward_jump m) n.address (n.seconds, n.fraction))
       (goose_clock_lem (time_field_on m (time_max_forward_jump m) n.address (n.seconds, n.fraction)))
 
-  goose_bound : (c : After Bool) → Keeps c.monitor (unless_hijacked (goose_time_field key n) c)
+  goose_bound : (c : After Bool) → Keeps c.monitor (unless_hijacked (goose_time_field n) c)
   goose_bound c = cond_holds (Keeps c.monitor) c.answer (ends_refused c.monitor BoundElsewhere) (goose_time_field_lem c.monitor)
 
 pub goose_kept : (m : Monitor) (f : GooseRead) → Keeps m (goose_test m f)
@@ -170,7 +170,7 @@ unfolding goose_test goose_allowed goose_reservation
 goose_kept m f =
     cond_holds (Keeps m) (blocked m f.numbers.test) (ends_refused m TestBlocked)
     (cond_holds (Keeps m) (goose_unknown m f.numbers.address f.publisher) (ends_refused m UnknownPublisher)
-    (keeps_then (use_kept m f.reservation f.numbers.address) (goose_bound f.stream f.numbers (cb_on m f.reservation f.numbers.address))))
+    (keeps_then (use_kept m f.reservation f.numbers.address) (goose_bound f.numbers (cb_on m f.reservation f.numbers.address))))
 
 module _ (svid : List ℕ) (n : SvNumbers) (rate : ℕ) where
   sv_clock_lem : (c : After Bool) → Keeps c.monitor (sv_clock svid n rate c)

@@ -14,6 +14,7 @@ use Rattle.records.specs.declared.result.InspectResult.{InspectResult}
 use Rattle.records.specs.declared.schedule.RetxSchedule.{RetxSchedule}
 use Rattle.records.specs.declared.search.Found.{Found}
 use Rattle.records.specs.Alert.{source_sv}
+use Rattle.records.specs.Hash.{fnv1a}
 use Rattle.records.specs.Result.{clean_result}
 use Rattle.records.specs.Search.{is_found, last_below}
 use Rattle.records.specs.Service.{service_number, is_write}
@@ -42,7 +43,7 @@ use Rattle.inspection.specs.declared.report.CheckAlert.TheVariants.{BoundElsewhe
 use Rattle.inspection.specs.declared.report.RuleCheck.{RuleCheck}
 use Rattle.inspection.specs.declared.report.RuleCheck.TheVariants.{Refused, Rate}
 use Rattle.inspection.specs.Address.{address_of}
-use Rattle.inspection.specs.InspectGoose.{stream_findings, timed_numbers, retransmitted, goose_stream, goose_clock, goose_time_field}
+use Rattle.inspection.specs.InspectGoose.{stream_findings, stream_key, timed_numbers, retransmitted, goose_stream, goose_clock, goose_time_field}
 use Rattle.inspection.specs.InspectGoose.{goose_unknown, control_block, goose_read, goose_read_by, goose_numbers_by, goose_test, checked_goose}
 use Rattle.inspection.specs.InspectMms.{MmsRead, control_key, full_findings, mms_reserved, releases, mms_control, refused_on, over_rate, unless_over, mms_rate}
 use Rattle.inspection.specs.InspectMms.{mms_read, mms_read_with, mms_checks, checked_mms}
@@ -168,16 +169,17 @@ module _ (m : Monitor) (octets : List ℕ) (time : ℕ) {p : ParsedSv} (e : p �
 
 -- ---- GOOSE
 
-module _ (m : Monitor) (stream : List ℕ) (n : GooseNumbers) {enforced : Bool} (e : enforced ≡ retx_enforce m) where
-  pub retx_not_asked : enforced ≡ false → false ≡ retransmitted m stream n
+module _ (m : Monitor) (n : GooseNumbers) {enforced : Bool} (e : enforced ≡ retx_enforce m) where
+  pub retx_not_asked : enforced ≡ false → false ≡ retransmitted m n
   unfolding retransmitted
   retx_not_asked h = sym (and_no _ (answered e h))
 
   pub retx_asked :
-      {schedule : RetxSchedule} {r : Bool} → enforced ≡ true → schedule ≡ retx_schedule m
-      → r ≡ retx_checked schedule m.goose_seq stream (timed_numbers n) → r ≡ retransmitted m stream n
+      {schedule : RetxSchedule} {key : List ℕ} {r : Bool} → enforced ≡ true → schedule ≡ retx_schedule m → key ≡ stream_key n
+      → r ≡ retx_checked schedule m.goose_seq key (timed_numbers n) → r ≡ retransmitted m n
   unfolding retransmitted
-  retx_asked h s q = q ∙ (λ i. retx_checked (s i) m.goose_seq stream (timed_numbers n)) ∙ sym (and_yes (answered e h) refl)
+  retx_asked h s k q =
+      q ∙ (λ i. retx_checked (s i) m.goose_seq (k i) (timed_numbers n)) ∙ sym (and_yes (answered e h) refl)
 
 -- publishers exist, and whether one fits
 module _ (m : Monitor) (address : ℕ) (name : List ℕ) {count : ℕ} (e : count ≡ goose_publisher_count m.goose_publishers) where
@@ -193,26 +195,25 @@ module _ (m : Monitor) (address : ℕ) (name : List ℕ) {count : ℕ} (e : coun
       ap (λ (x : Found). not (is_found x)) (sym h ∙ q) ∙ sym (and_yes (answered (ap (ltb 0) e) (nonzero _ d)) refl)
 
 pub clock_and_stream :
-    (n : GooseNumbers) (m : Monitor) {timed stored : Monitor} {alert outside replay : Bool} {key stream : List ℕ} {a : List Finding}
+    (n : GooseNumbers) (m : Monitor) {timed stored : Monitor} {alert outside replay : Bool} {key : List ℕ} {a : List Finding}
     → record { monitor = timed; answer = alert } ≡ time_field_on m (time_max_forward_jump m) n.address (n.seconds, n.fraction)
-    → key ≡ stream
-    → outside ≡ retransmitted timed key n
+    → outside ≡ retransmitted timed n
+    → key ≡ stream_key n
     → record { monitor = stored; answer = replay } ≡ goose_seq_on timed key (timed_numbers n)
     → a ≡ clock_findings alert ++ stream_findings replay outside
-    → record { monitor = stored; answer = a } ≡ goose_time_field stream n m
+    → record { monitor = stored; answer = a } ≡ goose_time_field n m
 unfolding goose_time_field
-clock_and_stream n m {timed = timed} {alert = alert} {replay = replay} {key = key} t k o s h =
+clock_and_stream n m {timed = timed} {alert = alert} {replay = replay} t o k s h =
     ends _ (h ∙ ap (λ (b : Bool). clock_findings alert ++ stream_findings replay b) o)
-    ∙ ap (goose_stream (clock_findings alert) (retransmitted timed key n)) s
-    ∙ ap (λ (c : After Bool). goose_clock key n c) t
-    ∙ ap (λ (stream : List ℕ). goose_time_field stream n m) k
+    ∙ ap (goose_stream (clock_findings alert) (retransmitted timed n)) (s ∙ ap (λ (key : List ℕ). goose_seq_on timed key (timed_numbers n)) k)
+    ∙ ap (goose_clock n) t
 
 pub goose_checked_lem :
-    (m : Monitor) (f : GooseFrame) {address : ℕ} {counted : Monitor} {c : Checked}
-    → address ≡ address_of f.src_mac → counted ≡ counted_goose m
-    → c ≡ goose_test counted (goose_read_by (control_block f) (goose_numbers_by address f)) → c ≡ checked_goose m f
-goose_checked_lem m f {counted = counted} s n e =
-    counted_checked (λ x. goose_test x (goose_read f)) n (e ∙ λ i. goose_test counted (goose_read_by (control_block f) (goose_numbers_by (s i) f)))
+    (m : Monitor) (f : GooseFrame) {address hash : ℕ} {counted : Monitor} {c : Checked}
+    → address ≡ address_of f.src_mac → hash ≡ fnv1a (control_block f) → counted ≡ counted_goose m
+    → c ≡ goose_test counted (goose_read_by (control_block f) (goose_numbers_by address hash f)) → c ≡ checked_goose m f
+goose_checked_lem m f {counted = counted} s h n e =
+    counted_checked (λ x. goose_test x (goose_read f)) n (e ∙ λ i. goose_test counted (goose_read_by (control_block f) (goose_numbers_by (s i) (h i) f)))
 
 -- ---- MMS
 

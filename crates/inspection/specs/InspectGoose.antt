@@ -3,6 +3,7 @@ use Rattle.std.specs.Prelude.{ℕ, Bool, true, ◌&&◌, not, cond, List, [], �
 use Rattle.records.specs.declared.frame.GooseFrame.{GooseFrame}
 use Rattle.records.specs.declared.result.InspectResult.{InspectResult}
 use Rattle.records.specs.Alert.{source_goose}
+use Rattle.records.specs.Hash.{fnv1a}
 use Rattle.records.specs.Name.{name_of}
 use Rattle.records.specs.Search.{is_found}
 use Rattle.checks.specs.GoosePublisher.{goose_publisher_count, goose_publisher}
@@ -27,21 +28,20 @@ goose_numbers f = (f.st_num, f.sq_num)
 abbrev pub goose_pair : GooseFrame → ℕ × ℕ
 goose_pair f = (f.t_seconds_since_epoch, f.t_fraction_of_second)
 
--- what the checks read of a frame: the keys of its control block among the publishers, the reservations and the streams, and its numbers
+-- what the checks read of a frame: the keys of its control block among the publishers and among the reservations, and its numbers
 pub record GooseRead : Type 0 where
   pub publisher : List ℕ
   pub reservation : List ℕ
-  pub stream : List ℕ
   pub numbers : GooseNumbers
 
 abbrev pub goose_read_by : List ℕ → GooseNumbers → GooseRead
-goose_read_by name n =
-    record { publisher = plain_key name; reservation = reservation_key true name; stream = goose_key n.address name; numbers = n }
+goose_read_by name n = record { publisher = plain_key name; reservation = reservation_key true name; numbers = n }
 
-abbrev pub goose_numbers_by : ℕ → GooseFrame → GooseNumbers
-goose_numbers_by address f =
+abbrev pub goose_numbers_by : ℕ → ℕ → GooseFrame → GooseNumbers
+goose_numbers_by address hash f =
     record {
       address = address;
+      hash = hash;
       st_num = f.st_num;
       sq_num = f.sq_num;
       test = f.test;
@@ -51,9 +51,12 @@ goose_numbers_by address f =
     }
 
 abbrev pub goose_read : GooseFrame → GooseRead
-goose_read f = goose_read_by (control_block f) (goose_numbers_by (address_of f.src_mac) f)
+goose_read f = goose_read_by (control_block f) (goose_numbers_by (address_of f.src_mac) (fnv1a (control_block f)) f)
 
--- the numbers with the time
+-- the stream's key, and the numbers with the time
+abbrev pub stream_key : GooseNumbers → List ℕ
+stream_key n = goose_key n.address n.hash
+
 abbrev pub timed_numbers : GooseNumbers → (ℕ × ℕ) × ℕ
 timed_numbers n = ((n.st_num, n.sq_num), n.timestamp_us)
 
@@ -63,26 +66,26 @@ stream_findings replay outside =
     cond replay (findings_of GooseReplay) (cond outside (findings_of Retransmission) [])
 
 -- the retransmission is asked for only with enforcement on
-unfoldable pub retransmitted : Monitor → List ℕ → GooseNumbers → Bool
-retransmitted m stream n = retx_enforce m && retx_checked (retx_schedule m) m.goose_seq stream (timed_numbers n)
+unfoldable pub retransmitted : Monitor → GooseNumbers → Bool
+retransmitted m n = retx_enforce m && retx_checked (retx_schedule m) m.goose_seq (stream_key n) (timed_numbers n)
 
 -- the stream's alerts follow the clock's
 abbrev pub goose_stream : List Finding → Bool → After Bool → Checked
 goose_stream before outside c = ended c.monitor (before ++ stream_findings c.answer outside)
 
-module _ (stream : List ℕ) (n : GooseNumbers) where
+module _ (n : GooseNumbers) where
   -- the retransmission is looked up before anything of the stream is stored
   abbrev pub goose_clock : After Bool → Checked
   goose_clock c =
-      goose_stream (clock_findings c.answer) (retransmitted c.monitor stream n) (goose_seq_on c.monitor stream (timed_numbers n))
+      goose_stream (clock_findings c.answer) (retransmitted c.monitor n) (goose_seq_on c.monitor (stream_key n) (timed_numbers n))
 
   -- 12. clock alert: High 31, checking goes on
   unfoldable pub goose_time_field : Monitor → Checked
   goose_time_field m = goose_clock (time_field_on m (time_max_forward_jump m) n.address (n.seconds, n.fraction))
 
 -- 11. named control block bound to another address: High 29
-unfoldable pub goose_reservation : GooseRead → Monitor → Checked
-goose_reservation f m = unless_hijacked (goose_time_field f.stream f.numbers) (cb_on m f.reservation f.numbers.address)
+unfoldable pub goose_reservation : GooseNumbers → List ℕ → Monitor → Checked
+goose_reservation n reservation m = unless_hijacked (goose_time_field n) (cb_on m reservation n.address)
 
 -- publishers exist, and none fits
 unfoldable pub goose_unknown : Monitor → ℕ → List ℕ → Bool
@@ -92,7 +95,7 @@ goose_unknown m address name =
 -- 10. publishers exist, none fits: High 6
 unfoldable pub goose_allowed : Monitor → GooseRead → Checked
 goose_allowed m f =
-    cond (goose_unknown m f.numbers.address f.publisher) (ended m (findings_of UnknownPublisher)) (goose_reservation f m)
+    cond (goose_unknown m f.numbers.address f.publisher) (ended m (findings_of UnknownPublisher)) (goose_reservation f.numbers f.reservation m)
 
 -- a test frame while blocked
 abbrev pub blocked : Monitor → Bool → Bool

@@ -1,8 +1,9 @@
 // The inspection of a GOOSE frame, carried over from industrial/iec61850-monitor/src/lib.rs of craton-shield a31d888527 (Apache-2.0) and changed: a
 // chain of stages on the monitor's words, each of which ends the checking or calls the next; the alerts added at the end.
-ghost use Rattle.std.specs.Prelude.{◌≡◌, true, ◌++◌};
+ghost use Rattle.std.specs.Prelude.{◌≡◌, true, ◌++◌, length};
+ghost use Rattle.records.specs.Hash.{fnv1a};
 ghost use Rattle.records.specs.Name.{name_of};
-ghost use Rattle.checks.specs.Keys.{plain_key, goose_key};
+ghost use Rattle.checks.specs.Keys.{plain_key, reservation_key};
 ghost use Rattle.monitor.specs.Monitor.{monitor_of};
 ghost use Rattle.inspection.specs.InspectGoose.{stream_findings, retransmitted, goose_time_field, goose_reservation, goose_unknown};
 ghost use Rattle.inspection.specs.InspectGoose.{goose_read_by, goose_test, blocked, checked_goose, inspect_goose};
@@ -20,6 +21,8 @@ use monitor::settings::{BLOCK_TEST_FRAMES, RETX_ENFORCE, flag_on, retx_schedule_
 use monitor::totals::{GOOSE_TOTAL_INSPECTED, count_frame_on};
 use records::alert::SOURCE_IEC61850_GOOSE;
 use records::frame::GooseFrame;
+use records::hash::fnv1a_32;
+use records::name::valid_len;
 use records::result::InspectResult;
 use records::search::Found;
 
@@ -27,6 +30,7 @@ use records::search::Found;
 #[derive(Drop)]
 pub struct GooseNumbers {
     pub address: u64,
+    pub hash: u32,
     pub st_num: u32,
     pub sq_num: u32,
     pub test: bool,
@@ -60,37 +64,37 @@ fn goose_alerts(clock: bool, replay: bool, outside: bool) -> CheckAlerts
 }
 
 // Whether a retransmission is outside tolerance; asked only with enforcement on.
-fn retransmitted(m: &[u64; WORDS], stream: &[u64; 10], n: GooseNumbers) -> bool
-    ensures { result ≡ retransmitted (monitor_of m.now) stream.now n }
+fn retransmitted(m: &[u64; WORDS], n: GooseNumbers) -> bool
+    ensures { result ≡ retransmitted (monitor_of m.now) n }
 {
     if flag_on(m, RETX_ENFORCE) {
         let schedule = retx_schedule_on(m);
-        return retx_anomaly_on(m, stream, schedule, n.st_num, n.sq_num, n.timestamp_us);
+        let key = goose_key(n.address, n.hash);
+        return retx_anomaly_on(m, &key, schedule, n.st_num, n.sq_num, n.timestamp_us);
     }
     false
 }
 
 // 12, 13: the clock; the stream, also after a clock alert, with the retransmission looked up before anything of it is stored.
-fn goose_time_field(m: &mut [u64; WORDS], name: &[u8; 64], len: u8, n: GooseNumbers) -> CheckAlerts
-    ensures { record { monitor = monitor_of m.new; answer = alerts_of result }
-        ≡ goose_time_field (goose_key n.address (name_of name.now len)) n (monitor_of m.old) }
+fn goose_time_field(m: &mut [u64; WORDS], n: GooseNumbers) -> CheckAlerts
+    ensures { record { monitor = monitor_of m.new; answer = alerts_of result } ≡ goose_time_field n (monitor_of m.old) }
 {
     let clock = clock_checked(m, n.address, n.seconds, n.fraction);
-    let stream = goose_key(n.address, *name, len);
-    let outside = retransmitted(m, &stream, n);
-    let replay = check_goose_seq_on(m, &stream, n.st_num, n.sq_num, n.timestamp_us);
+    let outside = retransmitted(m, n);
+    let key = goose_key(n.address, n.hash);
+    let replay = check_goose_seq_on(m, &key, n.st_num, n.sq_num, n.timestamp_us);
     goose_alerts(clock, replay, outside)
 }
 
 // 11: the control block's reservation.
 fn goose_reservation(m: &mut [u64; WORDS], name: &[u8; 64], len: u8, n: GooseNumbers) -> CheckAlerts
     ensures { record { monitor = monitor_of m.new; answer = alerts_of result }
-        ≡ goose_reservation (goose_read_by (name_of name.now len) n) (monitor_of m.old) }
+        ≡ goose_reservation n (reservation_key true (name_of name.now len)) (monitor_of m.old) }
 {
     if hijacked(m, true, name, len, n.address) {
         return one_alert(CheckAlert::BoundElsewhere);
     }
-    goose_time_field(m, name, len, n)
+    goose_time_field(m, n)
 }
 
 // 10: whether publishers exist and none fits.
@@ -116,7 +120,7 @@ fn goose_blocked(m: &[u64; WORDS], test: bool) -> bool
     false
 }
 
-// The checks of a GOOSE frame, by the octets of its control block's name: keys are made of them only where a check is reached that asks for one.
+// The checks of a GOOSE frame, by the octets of its control block's name: keys are made of them only where there are publishers or reservations.
 pub fn goose_checks_on(
     m: &mut [u64; WORDS],
     name: &[u8; 64],
@@ -135,13 +139,24 @@ pub fn goose_checks_on(
     goose_reservation(m, name, len, n)
 }
 
+// The hash of a frame's control block.
+pub fn name_hash(name: &[u8], len: u8) -> u32
+    requires { length name.now ≡ 64 }
+    ensures { result ≡ fnv1a (name_of name.now len) }
+{
+    let n = valid_len(len) as usize;
+    fnv1a_32(&name[..n])
+}
+
 // Counts and checks a GOOSE frame.
 fn check_goose_on(m: &mut [u64; WORDS], frame: GooseFrame) -> CheckAlerts
     ensures { record { monitor = monitor_of m.new; answer = alerts_of result } ≡ checked_goose (monitor_of m.old) frame }
 {
     let src_mac = frame.src_mac;
+    let go_cb_ref = frame.go_cb_ref;
     let n = GooseNumbers {
         address: address_of(src_mac),
+        hash: name_hash(&go_cb_ref, frame.go_cb_ref_len),
         st_num: frame.st_num,
         sq_num: frame.sq_num,
         test: frame.test,

@@ -1,10 +1,11 @@
 -- Laws of octets copied one by one from a place on.
 use mathlib.Core.Path.{◌≡◌, refl, ◌∙◌}
-use mathlib.Core.List.{List}
-use Prim.Native.Nat.{ℕ, ◌+◌, ◌≤◌, ◌<◌}
+use mathlib.Core.List.{List, [], ◌∷◌, ◌++◌}
+use Prim.Native.Nat.{ℕ, zero, suc, ◌+◌, ◌≤◌, ◌<◌}
 use native.Mathlib.Omega.{arith}
-use lib.ListN.{set, replicate, length-replicate}
-use Rattle.records.specs.Octets.{octet_at, overwritten}
+use lib.ListN.{length, set, take, drop, replicate, length-replicate, length-drop}
+use lib.Seq.{take-suc, get_or-drop}
+use Rattle.records.specs.Octets.{octet_at, tabulate, overwritten}
 use Rattle.records.proofs.NameLaws.{overwritten_more, overwritten_whole}
 use Rattle.lent.specs.Octets.{octets_at}
 
@@ -27,3 +28,13 @@ module _ (octets : List ℕ) (at n : ℕ) where
     copied_all h =
         let e : i ≡ n = omega (arith, c.bound) in
         (rw e at c.written) ∙ overwritten_whole (replicate n 0) _ n (length-replicate n 0)
+
+-- octets that are lent as a part of a slice
+pub part_octets : (octets : List ℕ) (at n : ℕ) → at + n ≤ length octets → take n (drop at octets) ≡ octets_at octets at n
+unfolding tabulate
+part_octets octets at zero h = refl
+part_octets octets at (suc n) h =
+    let size = length-drop at octets in
+    let earlier = part_octets octets at n (omega arith) in
+    let last = get_or-drop at octets n 0 in
+    take-suc (drop at octets) n 0 (omega (arith, size)) ∙ λ i. earlier i ++ last i ∷ []

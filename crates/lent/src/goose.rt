@@ -7,7 +7,7 @@ ghost use Rattle.lent.specs.Goose.{goose_frame_of};
 
 use crate::octets::{mac_at, name_at, u32_at, u64_at};
 use inspection::address::address_of;
-use inspection::inspect_goose::{GooseNumbers, goose_checks_on};
+use inspection::inspect_goose::{GooseNumbers, goose_checks_on, name_hash};
 use inspection::report::{CheckAlerts, verdict_on};
 use monitor::parts::WORDS;
 use monitor::totals::{GOOSE_TOTAL_INSPECTED, count_frame_on};
@@ -19,6 +19,7 @@ fn goose_numbers(o: &[u8]) -> GooseNumbers
 {
     GooseNumbers {
         address: address_of(mac_at(o, 0)),
+        hash: name_hash(&o[6..70], o[70]),
         st_num: u32_at(o, 72),
         sq_num: u32_at(o, 76),
         test: o[80] != 0,

@@ -1,12 +1,13 @@
 -- The key maps of the tables of words: numbers and names to their ten words, names alone where all have one number, and numbers as they are.
-use Rattle.std.proofs.Common.{◌≡◌, ℕ, List, length, arith}
+use Rattle.std.proofs.Common.{◌≡◌, ℕ, List, length, refl, arith}
+use mathlib.Core.List.{head-eq_of_cons-eq, tail-eq_of_cons-eq}
 use native.Mathlib.Decide.{ℕ_discrete}
 use Rattle.records.proofs.NameLaws.{length_tabulate}
 use Rattle.records.specs.Decide.{decide_pair, decide_list}
 use Rattle.tables.proofs.KeyedTables.{KeyMap}
 use Rattle.tables.proofs.KeyLaws.{LegalKey, key_injective}
 use Rattle.tables.proofs.WordTables.{EncodingLaws, named_table, numbered_table}
-use Rattle.tables.specs.Key.{name_word, key_of}
+use Rattle.tables.specs.Key.{name_word, key_of, two_number_key}
 use Rattle.tables.specs.WordTable.{Encoding}
 
 pub key_words : (number : ℕ) (name : List ℕ) → length (key_of number name) ≡ 10
@@ -36,6 +37,18 @@ module _ {W : Type 0} {encoding : Encoding W} (E : EncodingLaws encoding) where
         Legal = LegalKey number;
         legal = λ name g. key_words number name;
         injective = λ a b g g' e. (key_injective number number a b g g' e).1;
+      }
+
+  -- two numbers, as an address and a hash, in the first two words
+  abbrev pub by_two_numbers : KeyMap (ℕ × ℕ) (named_table E)
+  by_two_numbers =
+      record {
+        decide = decide_pair ℕ_discrete ℕ_discrete;
+        decide_key = decide_list ℕ_discrete;
+        key = λ k. two_number_key k.0 k.1;
+        Legal = λ k. Unit {0};
+        legal = λ k g. refl;
+        injective = λ j k g g' e. let p = head-eq_of_cons-eq e in let q = head-eq_of_cons-eq (tail-eq_of_cons-eq e) in λ i. (p i, q i);
       }
 
   -- a number

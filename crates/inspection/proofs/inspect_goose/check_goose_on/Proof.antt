@@ -8,14 +8,18 @@ use Rattle.inspection.proofs.inspect_goose.check_goose_on.Tie as tie
 returns : tie.Need-returns
 returns c =
     let counted = c.before.before.before.before in
-    let address = counted.before.before in
-    let a = address.before.before.args in
-    goose_checked_lem (monitor_of a.m.now) a.t2 address.address-of.ensures counted.count-frame-on.ensures c.goose-checks-on.ensures
+    let hash = counted.before.before in
+    let address = hash.before.before in
+    let a = address.before.before.before.args in
+    goose_checked_lem (monitor_of a.m.now) a.t2 address.address-of.ensures hash.name-hash.ensures counted.count-frame-on.ensures
+    c.goose-checks-on.ensures
 
 pub check-goose-on-spec : {M : Type 1} → statement M
 check-goose-on-spec =
     tie.close
     (tie.spec
+    (λ c κs. search rules)
+    (λ c. search rules)
     (λ c κs. search rules)
     (λ c κs. search rules)
     (λ c κs. search rules)

@@ -8,11 +8,11 @@ use Rattle.inspection.proofs.inspect_goose.goose_time_field.Tie as tie
 returns : tie.Need-returns
 returns c =
     let seq = c.before in
-    let retx = seq.before.before.before in
-    let key = retx.before.before.before in
-    let time = key.before.before in
+    let key = seq.before.before.before in
+    let retx = key.before in
+    let time = retx.before.before in
     let a = time.before.before.args in
-    clock_and_stream a.n (monitor_of a.m.now) time.clock-checked.ensures key.goose-key.ensures retx.retransmitted.ensures
+    clock_and_stream a.n (monitor_of a.m.now) time.clock-checked.ensures retx.retransmitted.ensures key.goose-key.ensures
     seq.check-goose-seq-on.ensures c.goose-alerts.ensures
 
 pub goose-time-field-spec : {M : Type 1} → statement M

@@ -25,7 +25,7 @@ returns-2 c =
     let a = k.before.before.args in
     let m = monitor_of a.m.now in
     let f = sv_read_by a.svid.now (name_of a.dataset.now a.dataset-len) a.n in
-    rules_permit m (λ rate. sv_reservation f rate m) k.sv-rule.ensures _ x.rate.given.1 c.sv_reservation_lem.ensures
+    rules_permit m (λ rate. sv_reservation f rate m) k.sv-rule.ensures _ x.rate.given.1 c.sv-reservation.ensures
 
 pub sv-checks-on-spec : {M : Type 1} → statement M
 sv-checks-on-spec =
