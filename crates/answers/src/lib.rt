@@ -1,4 +1,6 @@
 // The answers to the calls of a script, as lines of text. docs/SCRIPT.md says how they are written.
+#![tactic(auto)]
+
 mod frame;
 pub mod names;
 pub mod queries;

@@ -1,5 +1,7 @@
 // Many SV frames in one call, for hosts: inspected one after the other in the monitor where it stands. Each frame is a record of 160
 // octets, which is its C layout (crate lent), each verdict one of 8 (records::verdict).
+#![tactic(auto)]
+
 ghost use Rattle.std.specs.Prelude.{◌≡◌, length};
 ghost use Rattle.monitor.specs.Monitor.{monitor_of};
 ghost use Rattle.inspection.specs.InspectSv.{inspect_sv};

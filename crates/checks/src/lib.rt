@@ -1,4 +1,6 @@
 // The parts of the monitor and their checks, each over the words of its part: rules, tables that remember something, reservations.
+#![tactic(auto)]
+
 pub mod goose_publisher;
 pub mod goose_seq;
 pub mod keys;

@@ -9,7 +9,7 @@ use records::error::VsError;
 pub const PUBLISHER_KEYS: usize = 16;
 
 // The answer of an add call.
-#[derive(Drop)]
+#[derive(Clone, Copy)]
 pub enum Added {
     Rule,
     Error(VsError),

@@ -15,7 +15,7 @@ const RATES: usize = 176;
 const COUNT: usize = 192;
 
 // How a frame's svID and address match the rules: fitting, at the last place that fits.
-#[derive(Drop)]
+#[derive(Clone, Copy)]
 pub enum PublisherMatch {
     NotRegistered,
     WrongAddress,

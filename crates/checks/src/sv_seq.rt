@@ -7,7 +7,7 @@ ghost use Rattle.checks.specs.SvSeq.{count_outcome, sv_outcome, outcome_number, 
 use tables::named::{VALUES, enter_key};
 
 // What a count says of its stream. A gap is how many counts it went forward.
-#[derive(Drop)]
+#[derive(Clone, Copy)]
 pub enum SvSeqOutcome {
     FirstSeen,
     Replay,

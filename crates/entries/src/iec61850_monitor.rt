@@ -38,27 +38,27 @@ use records::schedule::RetxSchedule;
 
 // The whole state: what an entry takes and gives back.
 #[repr(C)]
-#[derive(Drop)]
+#[derive(Clone, Copy)]
 pub struct Iec61850Monitor {
     pub words: [u64; WORDS],
 }
 
 // The monitor after an add call, with the answer.
-#[derive(Drop)]
+#[derive(Clone, Copy)]
 pub struct Configured {
     pub monitor: Iec61850Monitor,
     pub answer: Added,
 }
 
 // The monitor after an inspection, with the result.
-#[derive(Drop)]
+#[derive(Clone, Copy)]
 pub struct Inspected {
     pub monitor: Iec61850Monitor,
     pub result: InspectResult,
 }
 
 // The monitor after a raw SV frame, with the result; a frame that cannot be read leaves the monitor, and is not allowed.
-#[derive(Drop)]
+#[derive(Clone, Copy)]
 pub struct RawInspected {
     pub monitor: Iec61850Monitor,
     pub raw: RawSv,

@@ -11,13 +11,13 @@ use checks::sv_seq::{SvSeqOutcome, check_sv_seq_in};
 use tables::order::clear;
 
 // Sixteen streams, each of one svID, with its last count.
-#[derive(Drop)]
+#[derive(Clone, Copy)]
 pub struct SvSeqTable {
     pub words: [u64; 178],
 }
 
 // The streams after a frame, and what its count says.
-#[derive(Drop)]
+#[derive(Clone, Copy)]
 pub struct SvChecked {
     pub table: SvSeqTable,
     pub outcome: SvSeqOutcome,

@@ -7,7 +7,7 @@ use records::service::MmsServiceType;
 
 // An MMS request, with its service by number: 1 to 12, any other is unknown.
 #[repr(C)]
-#[derive(Drop)]
+#[derive(Clone, Copy)]
 pub struct HostMmsFrame {
     pub service_type: u8,
     pub raw_service_type: u8,
@@ -21,7 +21,7 @@ pub struct HostMmsFrame {
 
 // A GOOSE message, with its test flag as a number.
 #[repr(C)]
-#[derive(Drop)]
+#[derive(Clone, Copy)]
 pub struct HostGooseFrame {
     pub src_mac: [u8; 6],
     pub go_cb_ref: [u8; 64],

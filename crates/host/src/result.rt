@@ -16,7 +16,7 @@ use records::result::InspectResult;
 
 // An alert, with its severity, 0 to 4, and its code, 0 to 42, by number.
 #[repr(C)]
-#[derive(Drop)]
+#[derive(Clone, Copy)]
 pub struct HostAlert {
     pub id: u64,
     pub timestamp_us: u64,
@@ -29,7 +29,7 @@ pub struct HostAlert {
 
 // A result, with its flags as numbers, 1 for true.
 #[repr(C)]
-#[derive(Drop)]
+#[derive(Clone, Copy)]
 pub struct HostResult {
     pub allowed: u8,
     pub alert_count: u8,
@@ -40,7 +40,7 @@ pub struct HostResult {
 
 // The monitor after an add call, and the error's number, 255 where the rule was added.
 #[repr(C)]
-#[derive(Drop)]
+#[derive(Clone, Copy)]
 pub struct HostConfigured {
     pub monitor: Iec61850Monitor,
     pub error: u8,
@@ -48,7 +48,7 @@ pub struct HostConfigured {
 
 // The monitor after an inspection, and the result.
 #[repr(C)]
-#[derive(Drop)]
+#[derive(Clone, Copy)]
 pub struct HostInspected {
     pub monitor: Iec61850Monitor,
     pub result: HostResult,
@@ -56,7 +56,7 @@ pub struct HostInspected {
 
 // The monitor after a raw SV frame, the result, and the error's number, 255 where the frame was read.
 #[repr(C)]
-#[derive(Drop)]
+#[derive(Clone, Copy)]
 pub struct HostRawInspected {
     pub monitor: Iec61850Monitor,
     pub result: HostResult,
@@ -65,14 +65,14 @@ pub struct HostRawInspected {
 
 // A verdict as eight octets: allowed, the number of alerts, and the code and the severity of each of up to three.
 #[repr(C)]
-#[derive(Drop)]
+#[derive(Clone, Copy)]
 pub struct HostVerdict {
     pub octets: [u8; 8],
 }
 
 // The verdict on a raw SV frame, and the error's number, 255 where the frame was read.
 #[repr(C)]
-#[derive(Drop)]
+#[derive(Clone, Copy)]
 pub struct HostRawVerdict {
     pub verdict: HostVerdict,
     pub error: u8,
@@ -80,7 +80,7 @@ pub struct HostRawVerdict {
 
 // The frame read from octets, and the error's number, 255 where it was read.
 #[repr(C)]
-#[derive(Drop)]
+#[derive(Clone, Copy)]
 pub struct HostParsed {
     pub frame: SvFrame,
     pub error: u8,

@@ -27,7 +27,7 @@ use records::result::InspectResult;
 use records::search::Found;
 
 // What the checks read of a frame beside its control block's name.
-#[derive(Drop)]
+#[derive(Clone, Copy)]
 pub struct GooseNumbers {
     pub address: u64,
     pub hash: u32,

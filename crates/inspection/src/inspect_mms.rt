@@ -22,7 +22,7 @@ use records::result::InspectResult;
 use records::search::Found;
 
 // What the checks read of a frame beside the name that a control action states.
-#[derive(Drop)]
+#[derive(Clone, Copy)]
 pub struct MmsNumbers {
     pub service: u8,
     pub write: bool,

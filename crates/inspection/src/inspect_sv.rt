@@ -28,7 +28,7 @@ use records::result::InspectResult;
 use sv_frame::sv::{Parsed, parse_sv};
 
 // What the checks read of a frame beside its names.
-#[derive(Drop)]
+#[derive(Clone, Copy)]
 pub struct SvNumbers {
     pub address: u64,
     pub seconds: u32,
@@ -38,7 +38,7 @@ pub struct SvNumbers {
 }
 
 // The result of a raw frame's inspection, with the error where it could not be read.
-#[derive(Drop)]
+#[derive(Clone, Copy)]
 pub struct RawSv {
     pub answer: Parsed,
     pub result: InspectResult,

@@ -1,4 +1,6 @@
 // The inspections of MMS requests, GOOSE messages and sampled values on a monitor's words.
+#![tactic(auto)]
+
 pub mod address;
 pub mod clock;
 pub mod hijack;

@@ -13,7 +13,7 @@ use records::counter::{saturating_increment, wrapping_increment};
 use records::result::{AlertCounters, InspectResult, Pushed};
 
 // What a check found: nothing, or the alert that it gives. A case is an octet, so that three of them are passed on for little.
-#[derive(Drop)]
+#[derive(Clone, Copy)]
 pub enum CheckAlert {
     Nothing,
     ServiceMasked,
@@ -36,7 +36,7 @@ pub enum CheckAlert {
 }
 
 // What the checks of an inspection found, in their order: no inspection has more than three alerts.
-#[derive(Drop)]
+#[derive(Clone, Copy)]
 pub struct CheckAlerts {
     pub first: CheckAlert,
     pub second: CheckAlert,
@@ -44,7 +44,7 @@ pub struct CheckAlerts {
 }
 
 // What the rules say of a frame: it is refused, or the rate that they give it, 0 for none.
-#[derive(Drop)]
+#[derive(Clone, Copy)]
 pub enum RuleCheck {
     Refused(CheckAlert),
     Rate(u16),
@@ -247,7 +247,7 @@ pub fn report_on(
 pub const CLEAN_VERDICT: [u8; 8] = [1, 0, 0, 0, 0, 0, 0, 0];
 
 // The verdict on a frame, and the counters after its alerts.
-#[derive(Drop)]
+#[derive(Clone, Copy)]
 pub struct Noted {
     pub verdict: [u8; 8],
     pub counters: AlertCounters,

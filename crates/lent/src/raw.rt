@@ -21,7 +21,7 @@ use wire::element::{Part, content};
 use wire::header::{Apdu, ETHERTYPE_SV, ethernet_header};
 
 // The verdict on a raw frame, with the error where it could not be read.
-#[derive(Drop)]
+#[derive(Clone, Copy)]
 pub struct RawVerdict {
     pub answer: Parsed,
     pub verdict: [u8; 8],

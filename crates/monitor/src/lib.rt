@@ -1,4 +1,6 @@
 // The monitor as one array of words.
+#![tactic(auto)]
+
 pub mod parts;
 pub mod reset;
 pub mod settings;

@@ -1,5 +1,7 @@
 // Runs the reference points of document 01, the published FNV-1a vectors and a few inspections, and writes what each gives;
 // `stdout` has what each must give (docs/DECISIONS.md says where that is from).
+#![tactic(auto)]
+
 mod copy_points;
 mod frame_points;
 mod monitor_points;

@@ -71,7 +71,7 @@ module _ {K W I A : Type 0} {dec : Discrete K} {n : ℕ} {fresh : I → W} {step
 
   pub valid_history : {l : List (K × W)} → Valid l → (h : List (K × I)) → All Legal h → Valid (foldl (touch dec n fresh step) l h)
   valid_history v [] g = v
-  valid_history v (x ∷ h) g = valid_history (valid_touch v x g.0) h g.1
+  valid_history {l = l} v (x ∷ h) g = valid_history {l = touch dec n fresh step l x} (valid_touch v x g.0) h g.1
 
   -- fewer than b frames, and one that is answered differently after them
   pub record Distinguished (b : ℕ) (l l' : List (K × W)) : Type 0 where

@@ -205,7 +205,8 @@ module _ {J K A B : Type 0} (dec_j : Discrete J) (dec_k : Discrete K) (f : J →
   entries_without [] q c d = refl
   entries_without (e ∷ l) q c d =
       by_cases (dec_j j e.0)
-      (λ p. rw p (without_head dec_k (f e.0) (entries_of f l) d ∙ ap (entries_of f) (sym (without_head dec_j e l c))))
+      (λ p. ap (λ (x : J). without dec_k (f x).0 (entries_of f (e ∷ l))) p ∙ without_head dec_k (f e.0) (entries_of f l) d
+      ∙ ap (entries_of f) (sym (without_head dec_j e l c)) ∙ ap (λ (x : J). entries_of f (without dec_j x (e ∷ l))) (sym p))
       (λ p. let m : (f j).0 ≢ (f e.0).0 = λ z. all_entries _ l (rw if_neg at q) d.0 (sym z) in
       simp (if_neg, entries_without l (rw if_neg at q) c.1 d.1))
 

@@ -3,7 +3,7 @@
 ghost use Rattle.std.specs.Prelude.{◌≡◌};
 ghost use Rattle.records.specs.Alert.{severity_number, denies, code_number, alert_of, no_alert};
 
-#[derive(Drop)]
+#[derive(Clone, Copy)]
 pub enum AlertSeverity {
     Info,
     Low,
@@ -35,7 +35,7 @@ impl AlertSeverity {
 }
 
 // What an alert is about.
-#[derive(Drop)]
+#[derive(Clone, Copy)]
 pub enum AlertCode {
     Unspecified,
     CrcFailure,
@@ -143,7 +143,7 @@ pub const SOURCE_IEC61850_GOOSE: u8 = 41;
 pub const SOURCE_IEC61850_SV: u8 = 42;
 
 // An alert. Its source number is the frame's invoke id, stNum or smpCnt.
-#[derive(Drop)]
+#[derive(Clone, Copy)]
 pub struct SecurityAlert {
     pub id: u64,
     pub timestamp_us: u64,
@@ -154,7 +154,7 @@ pub struct SecurityAlert {
 }
 
 // An alert with its code.
-#[derive(Drop)]
+#[derive(Clone, Copy)]
 pub struct CodedAlert {
     pub alert: SecurityAlert,
     pub code: AlertCode,

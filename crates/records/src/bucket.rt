@@ -4,7 +4,7 @@ ghost use Rattle.std.specs.Prelude.{◌≡◌};
 ghost use Rattle.records.specs.Bucket.{refill, tokens_with, refilled, next_call, first_call};
 
 // A token bucket: tokens per second, tokens left, and the time of the last refill.
-#[derive(Drop)]
+#[derive(Clone, Copy)]
 pub struct RateBucket {
     pub tokens: u16,
     pub capacity: u16,
@@ -12,7 +12,7 @@ pub struct RateBucket {
 }
 
 // A bucket after a call, and whether the call was allowed.
-#[derive(Drop)]
+#[derive(Clone, Copy)]
 pub struct BucketCall {
     pub bucket: RateBucket,
     pub allowed: bool,

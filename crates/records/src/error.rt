@@ -3,7 +3,7 @@
 ghost use Rattle.std.specs.Prelude.{◌≡◌};
 ghost use Rattle.records.specs.Error.{error_number};
 
-#[derive(Drop)]
+#[derive(Clone, Copy)]
 pub enum VsError {
     CryptoError,
     BusError,

@@ -10,7 +10,7 @@ pub type MmsClientId = u32;
 
 // A decoded MMS request. In SelectControl, CancelControl and Conclude `domain` names the control block. The service and its raw
 // number may disagree.
-#[derive(Drop)]
+#[derive(Clone, Copy)]
 pub struct MmsFrame {
     pub service_type: MmsServiceType,
     pub raw_service_type: u8,
@@ -23,7 +23,7 @@ pub struct MmsFrame {
 }
 
 // A decoded GOOSE message (IEC 61850-8-1). The pair of t is (0, 0) where the field is absent.
-#[derive(Drop)]
+#[derive(Clone, Copy)]
 pub struct GooseFrame {
     pub src_mac: [u8; 6],
     pub go_cb_ref: [u8; 64],
@@ -38,7 +38,7 @@ pub struct GooseFrame {
 
 // A decoded sampled-values frame (IEC 61850-9-2). The rate is 0 and the pair of t (0, 0) where the field is absent.
 #[repr(C)]
-#[derive(Drop)]
+#[derive(Clone, Copy)]
 pub struct SvFrame {
     pub src_mac: [u8; 6],
     pub svid_len: u8,

@@ -1,4 +1,6 @@
 // The lowest crate of the IEC 61850 monitor: numbers and enums, alerts, results, verdicts, frames, schedule, hash, bucket, names, octets.
+#![tactic(auto)]
+
 pub mod alert;
 pub mod bucket;
 pub mod counter;

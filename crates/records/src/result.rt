@@ -7,7 +7,7 @@ use crate::alert::{AlertCode, AlertSeverity, CodedAlert};
 use crate::counter::{saturating_increment, wrapping_increment};
 
 // The verdict on one frame, with up to four alerts.
-#[derive(Drop)]
+#[derive(Clone, Copy)]
 pub struct InspectResult {
     pub allowed: bool,
     pub alert_count: u8,
@@ -18,14 +18,14 @@ pub struct InspectResult {
 
 // The number that the next alert gets, and how many there were.
 #[repr(C)]
-#[derive(Drop)]
+#[derive(Clone, Copy)]
 pub struct AlertCounters {
     pub next_alert_id: u64,
     pub total_alerts: u64,
 }
 
 // A result and the counters after an alert.
-#[derive(Drop)]
+#[derive(Clone, Copy)]
 pub struct Pushed {
     pub result: InspectResult,
     pub counters: AlertCounters,

@@ -5,7 +5,7 @@ ghost use Rattle.records.specs.Schedule.{default_schedule, expected_interval, wi
 
 // The schedule by which a GOOSE publisher repeats an unchanged state (IEC 61850-8-1).
 #[repr(C)]
-#[derive(Drop)]
+#[derive(Clone, Copy)]
 pub struct RetxSchedule {
     pub initial_us: u32,
     pub t_max_us: u32,

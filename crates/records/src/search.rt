@@ -1,5 +1,5 @@
 // The answer of a search over slots or rules.
-#[derive(Drop)]
+#[derive(Clone, Copy)]
 pub enum Found {
     At(usize),
     Nothing,

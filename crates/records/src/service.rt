@@ -4,7 +4,7 @@ ghost use Rattle.std.specs.Prelude.{◌≡◌};
 ghost use Rattle.records.specs.Service.{service_number, service_of, is_write};
 
 // The MMS services (ISO 9506) that the monitor tells apart.
-#[derive(Drop)]
+#[derive(Clone, Copy)]
 pub enum MmsServiceType {
     Read,
     Write,

@@ -1,5 +1,7 @@
 // Reads a script of calls to the monitor from standard input, makes them one after the other, and writes a line for each with every
 // field of what it answered. docs/SCRIPT.md says how calls and answers are written.
+#![tactic(auto)]
+
 mod calls;
 
 use answers::names::{NAMES, NAMES_LEN};
@@ -16,7 +18,7 @@ use script::line::{CALLS, CALLS_LEN, Line};
 
 // How many lines were read; where the next one stands in the input buffer; where the answers end in the output buffer; where the record
 // ends of the call that is to be made, 0 if there is none; whether the input has ended; and whether to go on.
-#[derive(Drop)]
+#[derive(Clone, Copy)]
 struct Run {
     lines: u64,
     input: Input,

@@ -8,7 +8,7 @@ use libc::STDIN_FILENO;
 use records::octets::least;
 
 // Where the next line begins in the buffer, how far it was searched for its line feed, and where the octets that were read end.
-#[derive(Drop)]
+#[derive(Clone, Copy)]
 pub struct Input {
     pub start: usize,
     pub searched: usize,

@@ -8,7 +8,7 @@ use text::put::append;
 use text::words::{short_word_end, word_start};
 
 // What a line is: nothing to answer, a call, whose record ends at a place, or why it is none, with the number of the argument.
-#[derive(Drop)]
+#[derive(Clone, Copy)]
 pub enum Line {
     Skipped,
     Call(usize),

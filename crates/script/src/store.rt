@@ -7,14 +7,14 @@ use text::values::{Digits, Number, decimal, digits_at, name_start, word_octets};
 use text::words::{ends_at, word_end};
 
 // The place behind the argument, and whether the word is as it must be.
-#[derive(Drop)]
+#[derive(Clone, Copy)]
 pub struct Stored {
     pub end: usize,
     pub good: bool,
 }
 
 // The same, and the place behind the argument in its line.
-#[derive(Drop)]
+#[derive(Clone, Copy)]
 pub struct Argument {
     pub from: usize,
     pub end: usize,

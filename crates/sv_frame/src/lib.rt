@@ -1,4 +1,6 @@
 // The sampled-values frame: its fields, read into a frame, or by places.
+#![tactic(auto)]
+
 pub mod field;
 pub mod places;
 pub mod sv;

@@ -13,7 +13,7 @@ use wire::element::{Element, content, parse_tlv};
 use wire::number::pair_at;
 
 // Where the names stand in an ASDU and how long they are, its numbers, and the answer, which is InvalidInput without a count.
-#[derive(Drop)]
+#[derive(Clone, Copy)]
 pub struct SvPlaces {
     pub svid_at: usize,
     pub svid_len: usize,

@@ -15,21 +15,21 @@ use wire::header::{Apdu, ETHERTYPE_SV, ethernet_header};
 use wire::reader::{front, past, reader_of, unread};
 
 // Whether a frame was read.
-#[derive(Drop)]
+#[derive(Clone, Copy)]
 pub enum Parsed {
     Frame,
     Error(VsError),
 }
 
 // The frame that was read; the default frame beside an error.
-#[derive(Drop)]
+#[derive(Clone, Copy)]
 pub struct ParsedSv {
     pub answer: Parsed,
     pub frame: SvFrame,
 }
 
 // What was read of an ASDU so far: the frame, whether it has a count, and the answer: a frame, or the error that ended the reading.
-#[derive(Drop)]
+#[derive(Clone, Copy)]
 pub struct SvFields {
     frame: SvFrame,
     counted: bool,

@@ -3,14 +3,14 @@ ghost use Rattle.std.specs.Prelude.{◌+◌, ◌≤◌, length};
 
 use std::num::wrapping_add_u64;
 
-#[derive(Drop)]
+#[derive(Clone, Copy)]
 pub enum Number {
     Value(u64),
     Malformed,
 }
 
 // How many octets a word gave, and whether it is as it must be.
-#[derive(Drop)]
+#[derive(Clone, Copy)]
 pub struct Octets {
     pub count: usize,
     pub good: bool,
@@ -77,7 +77,7 @@ pub fn decimal(word: &[u8]) -> Number {
 }
 
 // The digits that stand in a line from a place on: their number, which counts if they are at most 19, and the place behind them.
-#[derive(Drop)]
+#[derive(Clone, Copy)]
 pub struct Digits {
     pub value: u64,
     pub end: usize,

@@ -8,21 +8,21 @@ use crate::number::big_endian;
 use records::error::VsError;
 
 // The length octets of an element: how many they are and the length that they state.
-#[derive(Drop)]
+#[derive(Clone, Copy)]
 pub enum Length {
     Definite { octets: usize, value: usize },
     Refused,
 }
 
 // The head of an element: its tag, where the content starts, and its length.
-#[derive(Drop)]
+#[derive(Clone, Copy)]
 pub enum Head {
     Read { tag: u8, start: usize, len: usize },
     Unreadable,
 }
 
 // An element at the front of some octets: its tag, where the content starts, its length, and where the rest starts.
-#[derive(Drop)]
+#[derive(Clone, Copy)]
 pub enum Element {
     Read {
         tag: u8,
@@ -34,7 +34,7 @@ pub enum Element {
 }
 
 // A part that is sought in some octets: where it starts and its length, that it is missing, or the error that ended the reading.
-#[derive(Drop)]
+#[derive(Clone, Copy)]
 pub enum Part {
     At { start: usize, len: usize },
     Missing,

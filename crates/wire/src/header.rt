@@ -11,14 +11,14 @@ pub const ETHERTYPE_SV: u16 = 0x88ba;
 pub const ETHERTYPE_VLAN_8021Q: u16 = 0x8100;
 
 // Where the APDU of a frame starts and ends.
-#[derive(Drop)]
+#[derive(Clone, Copy)]
 pub enum Apdu {
     At { start: usize, end: usize },
     Refused,
 }
 
 // The source address and the APDU; no address where the frame is refused.
-#[derive(Drop)]
+#[derive(Clone, Copy)]
 pub struct Header {
     pub src_mac: [u8; 6],
     pub apdu: Apdu,

@@ -29,7 +29,7 @@ pub fn big_endian(bytes: &[u8]) -> u32
 }
 
 // An unsigned integer of 1 to 4 octets and at most 65535.
-#[derive(Drop)]
+#[derive(Clone, Copy)]
 pub enum Unsigned {
     Value(u16),
     Refused,

@@ -6,7 +6,7 @@ ghost use Rattle.wire.specs.Reader.{after_element};
 
 use crate::element::{Element, parse_tlv, rest};
 
-#[derive(Drop)]
+#[derive(Clone, Copy)]
 pub struct ElementReader<'a> {
     unread: &'a [u8],
 }
