@@ -62,7 +62,7 @@ module _ {J K W I : Type 0} {B : Table K W} (N : KeyMap J B) (fresh : I → W) (
   pub holds_history : {t : B.State} {l : List (J × W)} → Holds N t l → (h : List (J × I)) → All (λ x. N.Legal x.0) h
       → Holds N (foldl after_frame t h) (foldl (touch N.decide 16 fresh step) l h)
   holds_history r [] g = r
-  holds_history r (x ∷ h) g = holds_history (holds_after r x g.0) h g.1
+  holds_history {t = t} {l = l} r (x ∷ h) g = holds_history {t = after_frame t x} {l = touch N.decide 16 fresh step l x} (holds_after r x g.0) h g.1
 
   -- from a table without entries, frames leave what their history leaves remembered
   pub holds_remembered : (t : B.State) → B.Sized t → ((i : ℕ) → i < 16 → rank B t i ≡ 16) → (h : List (J × I)) → All (λ x. N.Legal x.0) h
@@ -78,7 +78,11 @@ module _ {J K W I A : Type 0} {B : Table K W} (N : KeyMap J B) (fresh : I → W)
   pub table_answers_lem : {t : B.State} {l : List (J × W)} → Holds N t l → (f : List (J × I)) → All (λ x. N.Legal x.0) f
       → table_answers t f ≡ answers N.decide 16 fresh step ans l f
   table_answers_lem r [] g = refl
-  table_answers_lem r (x ∷ f) g = rw (value_held N r x.0 g.0, table_answers_lem (holds_after N fresh step r x g.0) f g.1)
+  table_answers_lem {t = t} {l = l} r (x ∷ f) g =
+      rw (
+        value_held N r x.0 g.0,
+        table_answers_lem {t = after_frame N fresh step t x} {l = touch N.decide 16 fresh step l x} (holds_after N fresh step r x g.0) f g.1,
+      )
 
 -- from a table without entries, for answers that tell values apart
 module _ {J K W I A : Type 0} {B : Table K W} (N : KeyMap J B) (fresh : I → W) (step : W → I → W) (ans : Option W → I → A)

@@ -99,7 +99,7 @@ last_there p e [] d = (e.0, simp if_pos, simp if_pos (omega arith))
 last_there p e (f ∷ o) d =
     let r = last_there (suc p) f o d.1 in
     by_cases (ℕ_discrete r.0 e.0)
-    (λ z. absurd (none-ne-some tt (sym (lookup_absent ℕ_discrete r.0 (f ∷ o) (rw (← z) at d.0)) ∙ r.1)))
+    (λ z. absurd (none-ne-some tt (sym (lookup_absent ℕ_discrete e.0 (f ∷ o) d.0) ∙ ap (λ x. look_slot x (f ∷ o)) (sym z) ∙ r.1)))
     (λ z. (r.0, rw if_neg r.1, rw if_neg (omega (arith, r.2))))
 
 last_of : (m : ℕ) (o : Slots) → Distinct o → length o ≡ suc m → (j : ℕ) × (look_slot j o ≡ some tt) × (position_from 0 j o ≡ m)
@@ -169,7 +169,7 @@ module _ {rank : ℕ → ℕ} {o : Slots} (r : Order rank o) where
     pub order_used : {rank' : ℕ → ℕ} → ((i : ℕ) → i < 16 → rank' i ≡ used_rank rank s i) → Order rank' ((s, tt) ∷ without_slot s o)
     order_used u = record {
       distinct = (absent_without ℕ_discrete s o, pairwise_without ℕ_discrete _ s o r.distinct);
-      below = λ i l. let n : i ≢ s = λ e. omega arith in simp (if_neg, lookup_without) (r.below i l);
+      below = λ i l. let n : i ≢ s = λ e. omega arith in rw if_neg (lookup_without ℕ_discrete i s o n ∙ r.below i l);
       ranked = λ i l.
           by_cases (ℕ_discrete i s)
           (λ e. u i l ∙ rw (eq-eqb i s e) (sym (simp if_pos)))

@@ -1,0 +1,23 @@
+-- `new_slot` meets its contract. The invariant: the search has reached slot i.
+use Rattle.std.proofs.Common.{leb, sym, refl, ap, ◌∙◌, arith, le-leb}
+use borrow.Author.Tests.{lt-leb}
+use Rattle.records.specs.Search.{slot_or}
+use Rattle.tables.specs.Order.{new_slot}
+use Rattle.records.proofs.SearchLaws.{reached_first, reached_end, reached_hit, reached_next}
+use Rattle.tables.proofs.order.new_slot.Goals as goal
+
+pub loop-i-init : goal.loop-i-init
+loop-i-init c = reached_first
+
+pub loop-i-preserved : goal.loop-i-preserved
+loop-i-preserved c = reached_next c.loop-i.invariant (omega arith) refl
+    (ap (leb 15) (sym c.rank_at.ensures) ∙ lt-leb 15 c.rank_at.result (omega arith))
+
+pub returns-then-i-ge15 : goal.returns-then-i-ge15
+unfolding new_slot
+returns-then-i-ge15 c = ap (slot_or 15) (reached_end c.loop-i.invariant (omega arith))
+
+pub returns-then-rank_at-ge15 : goal.returns-then-rank_at-ge15
+unfolding new_slot
+returns-then-rank_at-ge15 c = ap (slot_or 15) (reached_hit c.loop-i.invariant (omega arith) refl
+    (ap (leb 15) (sym c.rank_at.ensures) ∙ le-leb 15 c.rank_at.result (omega arith)))
