@@ -1,0 +1,18 @@
+-- `add_sv_publisher_in` meets its contract.
+use Rattle.checks.proofs.RuleLaws.{added_length, added_rule, added_error_lem}
+use Rattle.checks.specs.SvPublisher.{sv_added}
+use mathlib.Core.Path.{◌∙◌}
+use Rattle.checks.proofs.sv_publisher.add_sv_publisher_in.Goals as goal
+
+pub publisher_key-key-requires : goal.publisher_key-key-requires
+publisher_key-key-requires c = added_length _ _ c.add_answer.ensures c.in-Rule.is
+
+pub returns-in-Rule : goal.returns-in-Rule
+unfolding sv_added
+returns-in-Rule c = let n = c.rule_count.ensures in
+    added_rule _ _ _ _ c.add_answer.ensures c.in-Rule.is
+    (c.store_sv_publisher.ensures ∙ rw (n, c.publisher_key-key.ensures))
+
+pub returns-in-Error : goal.returns-in-Error
+unfolding sv_added
+returns-in-Error c = added_error_lem _ _ _ _ c.add_answer.ensures c.in-Error.is
