@@ -1,7 +1,7 @@
 // Octets, numbers and flags put into a line or a record. Each function takes the place where it goes on, and answers the place behind what it put;
 // what there is no room for is not put.
 ghost use Rattle.std.specs.Prelude.{◌+◌, ◌*◌, ◌≤◌, length};
-ghost use Rattle.io.specs.Counts.{IsPrefixLen};
+ghost use Rattle.text.specs.Counts.{IsPrefixLen};
 
 use records::octets::put_octets;
 
