@@ -1,11 +1,11 @@
 // The lines of standard input, through a buffer: where the next one stands in it, and how more is read into it. A line is shorter than
 // the buffer.
 ghost use Rattle.std.specs.Prelude.{◌+◌, ◌≤◌, length};
-ghost use Rattle.io.specs.Counts.{IsPrefixLen};
+ghost use Rattle.text.specs.Counts.{IsPrefixLen};
 
 use crate::line::{CALLS_LEN, Line, read_line};
-use libc::STDIN_FILENO;
 use records::octets::least;
+use std::io::{Read, Stdin};
 
 // Where the next line begins in the buffer, how far it was searched for its line feed, and where the octets that were read end.
 #[derive(Clone, Copy)]
@@ -72,12 +72,15 @@ fn move_to_start(buffer: &mut [u8], from: usize, n: usize)
     }
 }
 
-// Reads once, and answers how many octets came: 0 at the end of the input. A pipe gives what it has.
-fn read_some(part: &mut [u8]) -> usize
+// Reads once, and answers how many octets came: 0 at the end of the input, and where the read failed. A pipe gives what it has.
+fn read_some(stdin: Stdin, part: &mut [u8]) -> usize
     ensures { IsPrefixLen result part.new }
 {
-    let got = libc::read(STDIN_FILENO, part);
-    io::count(got, part)
+    let mut reader = stdin;
+    match reader.read(part) {
+        Ok(got) => got,
+        Err(_) => 0,
+    }
 }
 
 // Searches on for the line feed, to where it is or to the end of what was read.
@@ -109,12 +112,12 @@ pub fn behind_line(input: Input) -> Input {
 }
 
 // Reads more of the line whose line feed was not found, which is moved to the start of the buffer.
-pub fn refilled(input: Input, buffer: &mut [u8]) -> Input {
+pub fn refilled(stdin: Stdin, input: Input, buffer: &mut [u8]) -> Input {
     let places = within(input, buffer.len());
     let start = places.start;
     let rest = places.filled - start;
     move_to_start(buffer, start, rest);
-    let got = read_some(&mut buffer[rest..]);
+    let got = read_some(stdin, &mut buffer[rest..]);
     Input {
         start: 0,
         searched: rest,
