@@ -1,6 +1,6 @@
 // The text of a frame that was read: every field of it.
 ghost use Rattle.std.specs.Prelude.{◌≤◌, length};
-ghost use Rattle.io.specs.Counts.{IsPrefixLen};
+ghost use Rattle.text.specs.Counts.{IsPrefixLen};
 
 use crate::refusal::put_error;
 use records::frame::SvFrame;

@@ -1,6 +1,6 @@
 // The names of alert codes and of severities, in one table, which a program lays out once and lends.
 ghost use Rattle.std.specs.Prelude.{◌≤◌, length};
-ghost use Rattle.io.specs.Counts.{IsPrefixLen};
+ghost use Rattle.text.specs.Counts.{IsPrefixLen};
 
 use records::octets::least;
 use text::put::append;

@@ -1,6 +1,6 @@
 // The calls of a script that ask no monitor: what they answer.
 ghost use Rattle.std.specs.Prelude.{◌≤◌, length};
-ghost use Rattle.io.specs.Counts.{IsPrefixLen};
+ghost use Rattle.text.specs.Counts.{IsPrefixLen};
 
 use crate::frame::put_parsed;
 use records::bucket::{BucketCall, RateBucket};

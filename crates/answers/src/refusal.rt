@@ -1,6 +1,6 @@
 // The text of an error, and of a line that is no call.
 ghost use Rattle.std.specs.Prelude.{◌≤◌, length};
-ghost use Rattle.io.specs.Counts.{IsPrefixLen};
+ghost use Rattle.text.specs.Counts.{IsPrefixLen};
 
 use script::line::Line;
 use text::put::{append, put_number};

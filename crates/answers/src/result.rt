@@ -1,6 +1,6 @@
 // The text of a result: every field of it. docs/SCRIPT.md says how they are written.
 ghost use Rattle.std.specs.Prelude.{◌≤◌, length};
-ghost use Rattle.io.specs.Counts.{IsPrefixLen};
+ghost use Rattle.text.specs.Counts.{IsPrefixLen};
 
 use crate::names::{SEVERITIES, put_name};
 use records::alert::{CodedAlert, SecurityAlert};

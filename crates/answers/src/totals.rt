@@ -1,6 +1,6 @@
 // The totals of a monitor and its strict mode, which end every line.
 ghost use Rattle.std.specs.Prelude.{◌≤◌, length};
-ghost use Rattle.io.specs.Counts.{IsPrefixLen};
+ghost use Rattle.text.specs.Counts.{IsPrefixLen};
 
 use monitor::parts::WORDS;
 use monitor::settings::{STRICT_MODE, flag_on};

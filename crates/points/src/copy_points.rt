@@ -1,73 +1,86 @@
 // Frames heard twice (request 1): one of each kind, whose second copy comes a little later. A line has the time, and the verdict with its codes.
 use crate::frame_points::good_frame;
 use crate::monitor_points::{goose_frame, sv_frame, write_part, write_verdict};
+use crate::write_text;
 use entries::iec61850_monitor::Iec61850Monitor;
-use libc::STDOUT_FILENO;
 use records::schedule::RetxSchedule;
+use std::io::Stdout;
 
 // The monitor after an SV frame of the stream M1 with a clock, heard at a time.
-fn hear_sv(m: Iec61850Monitor, count: u16, seconds: u32, time_us: u64) -> Iec61850Monitor {
+fn hear_sv(
+    stdout: Stdout,
+    m: Iec61850Monitor,
+    count: u16,
+    seconds: u32,
+    time_us: u64,
+) -> Iec61850Monitor {
     let mut f = sv_frame(count);
     f.t_seconds_since_epoch = seconds;
     f.timestamp_us = time_us;
     let inspected = m.inspect_sv(f);
-    write_part(b"SV count ", count as u64);
-    write_part(b" clock ", seconds as u64);
-    write_part(b" heard at ", time_us);
+    write_part(stdout, b"SV count ", count as u64);
+    write_part(stdout, b" clock ", seconds as u64);
+    write_part(stdout, b" heard at ", time_us);
     let result = inspected.result;
-    write_verdict(result);
+    write_verdict(stdout, result);
     inspected.monitor
 }
 
 // The monitor after a GOOSE frame of stNum 1 with a clock, heard at a time.
-fn hear_goose(m: Iec61850Monitor, sq_num: u32, seconds: u32, time_us: u64) -> Iec61850Monitor {
+fn hear_goose(
+    stdout: Stdout,
+    m: Iec61850Monitor,
+    sq_num: u32,
+    seconds: u32,
+    time_us: u64,
+) -> Iec61850Monitor {
     let mut f = goose_frame(1, sq_num, seconds);
     f.timestamp_us = time_us;
     let inspected = m.inspect_goose(f);
-    write_part(b"GOOSE sqNum ", sq_num as u64);
-    write_part(b" clock ", seconds as u64);
-    write_part(b" heard at ", time_us);
+    write_part(stdout, b"GOOSE sqNum ", sq_num as u64);
+    write_part(stdout, b" clock ", seconds as u64);
+    write_part(stdout, b" heard at ", time_us);
     let result = inspected.result;
-    write_verdict(result);
+    write_verdict(stdout, result);
     inspected.monitor
 }
 
 // The monitor after document 01's frame, heard at a time.
-fn hear_raw(m: Iec61850Monitor, time_us: u64) -> Iec61850Monitor {
+fn hear_raw(stdout: Stdout, m: Iec61850Monitor, time_us: u64) -> Iec61850Monitor {
     let octets = good_frame();
     let inspected = m.inspect_raw_sv(&octets, time_us);
-    io::write_all(STDOUT_FILENO, b"raw frame");
-    write_part(b" heard at ", time_us);
+    write_text(stdout, b"raw frame");
+    write_part(stdout, b" heard at ", time_us);
     let raw = inspected.raw;
     let result = raw.result;
-    write_verdict(result);
+    write_verdict(stdout, result);
     inspected.monitor
 }
 
 // A clock that goes back and a gap above the limit the first time, replay alone the second.
-fn sv_copies() {
+fn sv_copies(stdout: Stdout) {
     let limited = Iec61850Monitor::new().set_sv_max_smp_cnt_gap(10);
-    let before = hear_sv(limited, 500, 100, 1000);
-    let first = hear_sv(before, 520, 90, 1250);
-    hear_sv(first, 520, 90, 1259);
+    let before = hear_sv(stdout, limited, 500, 100, 1000);
+    let first = hear_sv(stdout, before, 520, 90, 1250);
+    hear_sv(stdout, first, 520, 90, 1259);
 }
 
 // A clock that goes back and a repetition too early the first time, replay alone the second.
-fn goose_copies() {
+fn goose_copies(stdout: Stdout) {
     let enforced = Iec61850Monitor::new().set_retx_schedule(RetxSchedule::default_8_1(), true);
-    let before = hear_goose(enforced, 0, 100, 1000);
-    let first = hear_goose(before, 1, 90, 1250);
-    hear_goose(first, 1, 90, 1259);
+    let before = hear_goose(stdout, enforced, 0, 100, 1000);
+    let first = hear_goose(stdout, before, 1, 90, 1250);
+    hear_goose(stdout, first, 1, 90, 1259);
 }
 
 // Allowed the first time.
-fn raw_copies() {
-    let first = hear_raw(Iec61850Monitor::new(), 1250);
-    hear_raw(first, 1259);
+fn raw_copies(stdout: Stdout) {
+    let first = hear_raw(stdout, Iec61850Monitor::new(), 1250);
+    hear_raw(stdout, first, 1259);
 }
 
-pub fn write_copies() {
-    sv_copies();
-    goose_copies();
-    raw_copies();
+pub fn write_copies(stdout: Stdout) {
+    sv_copies(stdout);
+    goose_copies(stdout);
+    raw_copies(stdout);
 }

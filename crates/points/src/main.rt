@@ -6,39 +6,53 @@ mod copy_points;
 mod frame_points;
 mod monitor_points;
 
-use libc::STDOUT_FILENO;
 use records::bucket::RateBucket;
 use records::hash::fnv1a_32;
 use records::schedule::RetxSchedule;
+use std::io::Stdout;
+
+// Octets as they are. A write that fails is passed over, here and in every other function that writes.
+fn write_text(stdout: Stdout, text: &[u8]) {
+    let _ = stdout.write_all(text);
+}
+
+// A number's decimal digits.
+fn write_decimal(stdout: Stdout, n: u64) {
+    let _ = print!(stdout; "{n}");
+}
+
+// The eight hexadecimal digits of a number.
+fn write_hex(stdout: Stdout, n: u32) {
+    let _ = print!(stdout; "{n:08x}");
+}
 
 // A label and a number, on a line.
-fn write_number(label: &[u8], n: u64) {
-    io::write_all(STDOUT_FILENO, label);
-    io::print_decimal(STDOUT_FILENO, n);
-    io::write_all(STDOUT_FILENO, b"\n");
+fn write_number(stdout: Stdout, label: &[u8], n: u64) {
+    write_text(stdout, label);
+    write_decimal(stdout, n);
+    write_text(stdout, b"\n");
 }
 
 // A space and an octet.
-fn write_octet(octet: u8) {
-    io::write_all(STDOUT_FILENO, b" ");
-    io::print_hex(STDOUT_FILENO, octet as u64, 2);
+fn write_octet(stdout: Stdout, octet: u8) {
+    let _ = print!(stdout; " {octet:02x}");
 }
 
-fn write_octets(octets: &[u8]) {
+fn write_octets(stdout: Stdout, octets: &[u8]) {
     let mut i = 0;
     while i < octets.len() {
-        write_octet(octets[i]);
+        write_octet(stdout, octets[i]);
         i += 1;
     }
 }
 
 // The octets and their hash, on a line.
-fn write_hash(octets: &[u8]) {
-    io::write_all(STDOUT_FILENO, b"fnv1a");
-    write_octets(octets);
-    io::write_all(STDOUT_FILENO, b": ");
-    io::print_hex(STDOUT_FILENO, fnv1a_32(octets) as u64, 8);
-    io::write_all(STDOUT_FILENO, b"\n");
+fn write_hash(stdout: Stdout, octets: &[u8]) {
+    write_text(stdout, b"fnv1a");
+    write_octets(stdout, octets);
+    write_text(stdout, b": ");
+    write_hex(stdout, fnv1a_32(octets));
+    write_text(stdout, b"\n");
 }
 
 fn flag(b: bool) -> u64 {
@@ -46,67 +60,84 @@ fn flag(b: bool) -> u64 {
 }
 
 // The schedule of 4000 to 1,000,000 at 25 percent.
-fn schedule_points() {
+fn schedule_points(stdout: Stdout) {
     let s = RetxSchedule::default_8_1();
-    write_number(b"interval 7: ", s.expected_interval_us(7) as u64);
-    write_number(b"interval 8: ", s.expected_interval_us(8) as u64);
-    write_number(b"interval 32: ", s.expected_interval_us(32) as u64);
-    write_number(b"tolerance 2999: ", flag(s.within_tolerance(2999, 4000)));
-    write_number(b"tolerance 3000: ", flag(s.within_tolerance(3000, 4000)));
-    write_number(b"tolerance 5000: ", flag(s.within_tolerance(5000, 4000)));
-    write_number(b"tolerance 5001: ", flag(s.within_tolerance(5001, 4000)));
+    write_number(stdout, b"interval 7: ", s.expected_interval_us(7) as u64);
+    write_number(stdout, b"interval 8: ", s.expected_interval_us(8) as u64);
+    write_number(stdout, b"interval 32: ", s.expected_interval_us(32) as u64);
+    write_number(
+        stdout,
+        b"tolerance 2999: ",
+        flag(s.within_tolerance(2999, 4000)),
+    );
+    write_number(
+        stdout,
+        b"tolerance 3000: ",
+        flag(s.within_tolerance(3000, 4000)),
+    );
+    write_number(
+        stdout,
+        b"tolerance 5000: ",
+        flag(s.within_tolerance(5000, 4000)),
+    );
+    write_number(
+        stdout,
+        b"tolerance 5001: ",
+        flag(s.within_tolerance(5001, 4000)),
+    );
 }
 
 // A bucket of 10, empty, refilled at 0.
-fn bucket_points() {
+fn bucket_points(stdout: Stdout) {
     let b = RateBucket {
         tokens: 0,
         capacity: 10,
         last_refill_us: 0,
     };
     let early = b.next_call(99_999);
-    write_number(b"bucket 99999: ", flag(early.allowed));
+    write_number(stdout, b"bucket 99999: ", flag(early.allowed));
     let due = b.next_call(100_000);
-    write_number(b"bucket 100000: ", flag(due.allowed));
+    write_number(stdout, b"bucket 100000: ", flag(due.allowed));
 }
 
 // The first vectors of the FNV reference source (test_fnv.c).
-fn hash_points() {
-    write_hash(b"");
-    write_hash(b"a");
-    write_hash(b"b");
-    write_hash(b"c");
-    write_hash(b"d");
-    write_hash(b"e");
-    write_hash(b"f");
-    write_hash(b"fo");
-    write_hash(b"foo");
-    write_hash(b"foob");
-    write_hash(b"fooba");
-    write_hash(b"foobar");
+fn hash_points(stdout: Stdout) {
+    write_hash(stdout, b"");
+    write_hash(stdout, b"a");
+    write_hash(stdout, b"b");
+    write_hash(stdout, b"c");
+    write_hash(stdout, b"d");
+    write_hash(stdout, b"e");
+    write_hash(stdout, b"f");
+    write_hash(stdout, b"fo");
+    write_hash(stdout, b"foo");
+    write_hash(stdout, b"foob");
+    write_hash(stdout, b"fooba");
+    write_hash(stdout, b"foobar");
 }
 
 // Strings of the same list with the octet 0 that ends them.
-fn ended_hash_points() {
-    write_hash(b"\0");
-    write_hash(b"a\0");
-    write_hash(b"b\0");
-    write_hash(b"c\0");
-    write_hash(b"d\0");
-    write_hash(b"e\0");
-    write_hash(b"f\0");
-    write_hash(b"foo\0");
-    write_hash(b"foob\0");
-    write_hash(b"fooba\0");
-    write_hash(b"foobar\0");
+fn ended_hash_points(stdout: Stdout) {
+    write_hash(stdout, b"\0");
+    write_hash(stdout, b"a\0");
+    write_hash(stdout, b"b\0");
+    write_hash(stdout, b"c\0");
+    write_hash(stdout, b"d\0");
+    write_hash(stdout, b"e\0");
+    write_hash(stdout, b"f\0");
+    write_hash(stdout, b"foo\0");
+    write_hash(stdout, b"foob\0");
+    write_hash(stdout, b"fooba\0");
+    write_hash(stdout, b"foobar\0");
 }
 
-fn main() {
-    schedule_points();
-    bucket_points();
-    hash_points();
-    ended_hash_points();
-    frame_points::write_frames();
-    monitor_points::write_inspections();
-    copy_points::write_copies();
+fn main(rt: HostRuntime) {
+    let stdout = rt.stdout();
+    schedule_points(stdout);
+    bucket_points(stdout);
+    hash_points(stdout);
+    ended_hash_points(stdout);
+    frame_points::write_frames(stdout);
+    monitor_points::write_inspections(stdout);
+    copy_points::write_copies(stdout);
 }

@@ -1,6 +1,6 @@
 // The calls of a script, each made from its record on the monitor's words, and the lines of their answers.
 ghost use Rattle.std.specs.Prelude.{◌≤◌, length};
-ghost use Rattle.io.specs.Counts.{IsPrefixLen};
+ghost use Rattle.text.specs.Counts.{IsPrefixLen};
 
 use answers::queries::{put_parsing, put_query};
 use answers::refusal::put_error;

@@ -7,7 +7,6 @@ mod calls;
 use answers::names::{NAMES, NAMES_LEN};
 use answers::refusal::put_malformed;
 use calls::make_call;
-use libc::STDOUT_FILENO;
 use monitor::parts::WORDS;
 use monitor::reset::new_on;
 use records::counter::saturating_increment;
@@ -15,6 +14,7 @@ use records::octets::least;
 use script::arguments::front;
 use script::input::{Input, behind_line, find_line, read_found, refilled};
 use script::line::{CALLS, CALLS_LEN, Line};
+use std::io::{Stdin, Stdout};
 
 // How many lines were read; where the next one stands in the input buffer; where the answers end in the output buffer; where the record
 // ends of the call that is to be made, 0 if there is none; whether the input has ended; and whether to go on.
@@ -28,10 +28,17 @@ struct Run {
     more: bool,
 }
 
-// Writes the answers that stand in the output buffer.
-fn write_answers(output: &[u8], end: usize) -> bool {
+// Where the script is read from, and where the answers are written to.
+#[derive(Clone, Copy)]
+struct Streams {
+    stdin: Stdin,
+    stdout: Stdout,
+}
+
+// Writes the answers that stand in the output buffer, and answers whether all were written.
+fn write_answers(stdout: Stdout, output: &[u8], end: usize) -> bool {
     let n = least(end, output.len());
-    io::write_all(STDOUT_FILENO, &output[0..n])
+    stdout.write_all(&output[0..n]).is_ok()
 }
 
 // Ends the run at a line that is no call. Answers never end behind their buffer: the least of both places spares a proof of that.
@@ -58,12 +65,12 @@ fn note_line(run: Run, line: Line, output: &mut [u8]) -> Run {
 }
 
 // Writes the answers, and reads more. Where nothing comes, the input has ended, or the line is too long for the buffer.
-fn read_on(run: Run, buffer: &mut [u8], output: &[u8]) -> Run {
+fn read_on(run: Run, streams: Streams, buffer: &mut [u8], output: &[u8]) -> Run {
     let mut out = run;
-    out.more = write_answers(output, run.end);
+    out.more = write_answers(streams.stdout, output, run.end);
     out.end = 0;
     let places = run.input;
-    let input = refilled(places, buffer);
+    let input = refilled(streams.stdin, places, buffer);
     out.input = input;
     out.ended = input.searched >= input.filled;
     out
@@ -72,6 +79,7 @@ fn read_on(run: Run, buffer: &mut [u8], output: &[u8]) -> Run {
 // Reads the next line if the buffer has all of it. If not, reads on. The line that the end of the input ends is the last.
 fn read_next(
     run: Run,
+    streams: Streams,
     calls: &[u8; CALLS_LEN],
     buffer: &mut [u8],
     call: &mut [u8],
@@ -83,7 +91,7 @@ fn read_next(
     out.input = input;
     if input.searched >= input.filled {
         if !run.ended {
-            return read_on(out, buffer, output);
+            return read_on(out, streams, buffer, output);
         }
         out.more = false;
     }
@@ -96,6 +104,7 @@ fn read_next(
 // Reads the next line, or writes the answers first if there is no room for another, which has at most 2048 octets.
 fn next_call(
     run: Run,
+    streams: Streams,
     calls: &[u8; CALLS_LEN],
     buffer: &mut [u8; 262144],
     call: &mut [u8; 262144],
@@ -104,9 +113,9 @@ fn next_call(
     let mut out = run;
     out.call_end = 0;
     if run.end <= 63488 {
-        return read_next(out, calls, buffer, call, output);
+        return read_next(out, streams, calls, buffer, call, output);
     }
-    out.more = write_answers(output, run.end);
+    out.more = write_answers(streams.stdout, output, run.end);
     out.end = 0;
     out
 }
@@ -128,8 +137,8 @@ fn answer_call(
 }
 
 // Writes the answers at the end of the run.
-fn write_last(output: &[u8; 65536], end: usize) {
-    write_answers(output, end);
+fn write_last(stdout: Stdout, output: &[u8; 65536], end: usize) {
+    write_answers(stdout, output, end);
 }
 
 fn new_run() -> Run {
@@ -149,7 +158,11 @@ fn new_run() -> Run {
 
 // A proved loop has to end, and nothing says that the input does. So the loop counts its turns down, from a number that no run
 // uses up.
-fn main() {
+fn main(rt: HostRuntime) {
+    let streams = Streams {
+        stdin: rt.stdin(),
+        stdout: rt.stdout(),
+    };
     let mut buffer = [0u8; 262144];
     let mut call = [0u8; 262144];
     let mut output = [0u8; 65536];
@@ -160,9 +173,9 @@ fn main() {
     let mut run = new_run();
     let mut turns = u64::MAX;
     while turns > 0 && run.more {
-        run = next_call(run, &calls, &mut buffer, &mut call, &mut output);
+        run = next_call(run, streams, &calls, &mut buffer, &mut call, &mut output);
         run = answer_call(run, &mut words, &call, &names, &mut output);
         turns -= 1;
     }
-    write_last(&output, run.end);
+    write_last(streams.stdout, &output, run.end);
 }

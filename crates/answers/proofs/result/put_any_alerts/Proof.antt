@@ -1,6 +1,6 @@
 -- `answers::result::put_any_alerts` stays within the line. Where there are no alerts, its place is the one that it was given. Assumes nothing.
 use native.Mathlib.Omega.{arith}
-use Rattle.io.proofs.Counting.{prefix_len_of_le}
+use Rattle.text.proofs.Counting.{prefix_len_of_le}
 use borrow.Author.Rules.{rules}
 use Rattle.answers.proofs.result.put_any_alerts.Statement.{statement}
 use Rattle.answers.proofs.result.put_any_alerts.Tie as tie
