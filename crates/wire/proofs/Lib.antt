@@ -4,7 +4,6 @@ pub mod LengthCasesHold
 pub mod ElementLaws
 pub mod SoughtLaws
 pub mod HeaderLaws
-pub mod ReaderWalks
 pub mod PointsHold
 pub mod RowLaws
 pub mod RefusalsHold

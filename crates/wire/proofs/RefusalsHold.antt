@@ -1,6 +1,4 @@
 -- What is not read is error 9, for all octets.
-use Prim.Native.Nat.{ℕ}
-use mathlib.Core.List.{List}
 use mathlib.Core.Logic.{inl, inr}
 use mathlib.Core.Path.{refl}
 use Rattle.records.specs.Row.{ValuesOr}

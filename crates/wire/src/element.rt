@@ -84,6 +84,7 @@ pub fn read_length(bytes: &[u8]) -> Length
 }
 
 // The head of the element at the front of some octets, whatever follows it.
+#[tactic(auto, using(crate::proofs::ElementLaws::head_high))]
 pub fn read_head(bytes: &[u8]) -> Head
     ensures { result ≡ head_of bytes.now }
 {
