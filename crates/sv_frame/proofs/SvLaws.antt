@@ -2,11 +2,10 @@
 use mathlib.Core.Path.{◌≡◌, refl, sym, ◌∙◌, ap}
 use mathlib.Core.Bool.{Bool, true, false, ◌||◌, cond, true≢false}
 use mathlib.Core.List.{List}
-use mathlib.Core.Logic.{⊎_elim}
 use Prim.Native.Nat.{ℕ, ◌+◌, ◌≤◌, ◌<◌}
 use native.Mathlib.Omega.{arith}
 use borrow.Author.Tests.{ltb-true, ltb-false, eq-eqb, ne_eqb}
-use lib.Dec.{eqb, ltb}
+use lib.Dec.{eqb}
 use lib.ListN.{length, take, drop, length-take, length-drop}
 use Rattle.records.specs.declared.frame.SvFrame.{SvFrame}
 use Rattle.wire.specs.declared.element.Element.{Element}
@@ -154,7 +153,7 @@ module _ (octets : List ℕ) (r : Part) (f : FoundOr Any (part_of octets r)) (n 
   none_inside place = go r f n
     where
       go : (r : Part) → FoundOr Any (part_of octets r) → NoPart r → Failed InvalidInput ≡ inside_at octets r place
-      go (At start len) f n = ⊎_elim (λ z. absurd (omega arith)) (λ z. absurd (omega arith)) n
+      go (At start len) f n = absurd (n start len refl)
       go Missing f n = refl
       go (Failed x) f n = ap Failed (sym f)
 
@@ -162,7 +161,7 @@ module _ (octets : List ℕ) (r : Part) (f : FoundOr Any (part_of octets r)) (n 
   none_shifted by = go r f n
     where
       go : (r : Part) → FoundOr Any (part_of octets r) → NoPart r → Failed InvalidInput ≡ shifted by r
-      go (At start len) f n = ⊎_elim (λ z. absurd (omega arith)) (λ z. absurd (omega arith)) n
+      go (At start len) f n = absurd (n start len refl)
       go Missing f n = refl
       go (Failed x) f n = ap Failed (sym f)
 

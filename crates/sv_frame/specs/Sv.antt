@@ -1,5 +1,5 @@
 -- The sampled-values frame (01, "SV frame"). Each refusal is InvalidInput, and is marked `refused`.
-use Rattle.std.specs.Prelude.{ℕ, ◌+◌, ◌-◌, Bool, true, false, ◌||◌, cond, List, [], ◌∷◌, eqb, ltb, length, take, drop}
+use Rattle.std.specs.Prelude.{ℕ, ◌+◌, ◌-◌, Bool, false, ◌||◌, cond, List, [], ◌∷◌, eqb, ltb, length, take, drop}
 use Rattle.records.specs.declared.error.VsError.{VsError}
 use Rattle.records.specs.declared.error.VsError.TheVariants.{InvalidInput}
 use Rattle.records.specs.declared.frame.SvFrame.{SvFrame}

@@ -2,15 +2,12 @@
 use mathlib.Core.Path.{◌≡◌, refl, sym, ◌∙◌, ap}
 use mathlib.Core.Bool.{Bool, true, false, cond}
 use mathlib.Core.List.{List, [], ◌∷◌}
-use mathlib.Core.Logic.{⊎_elim}
 use Prim.Native.Nat.{ℕ, zero, suc, ◌+◌, ◌-◌, ◌≤◌}
 use native.Mathlib.Omega.{arith}
 use lib.Dec.{eqb}
 use lib.ListN.{length, take, drop, length-take, length-drop}
 use lib.Seq.{take-length, drop-drop}
 use Rattle.records.proofs.Booleans.{cond_holds}
-use types.Run.{OneOf}
-use denote.Enum.Declared.{tag_of}
 use Rattle.records.specs.declared.error.VsError.TheVariants.{InvalidInput}
 use Rattle.wire.specs.declared.element.Part.{Part}
 use Rattle.wire.specs.declared.element.Part.TheVariants.{At, Missing, Error}
@@ -19,12 +16,11 @@ use Rattle.wire.specs.declared.element.Element.TheVariants.{Read, Unreadable}
 use Rattle.wire.specs.Element.{element, Elements, ended, failed, next, element_then, elements_then, elements_of, elements}
 use Rattle.wire.specs.Element.{Sought, found, missing, error, first_content, content_of, opened}
 use Rattle.wire.specs.Element.{content_place, opened_place, first_place, part_of, PartWithin}
-use Rattle.wire.specs.contracts.element.Part as P
 use Rattle.wire.proofs.ElementLaws.{element_end, Any, FoundOr}
 
--- an answer that is no part is either of two
+-- an answer that is no part
 abbrev pub NoPart : Part → Type 0
-NoPart r = OneOf (1 ∷ 2 ∷ []) (tag_of P.the_type r)
+NoPart r = (start len : ℕ) → r ≡ At start len → ⊥
 
 -- what is sought, by the answer to the search
 module _ (octets : List ℕ) (r : Part) {s : Sought} (e : part_of octets r ≡ s) where
@@ -38,7 +34,7 @@ module _ (octets : List ℕ) (r : Part) {s : Sought} (e : part_of octets r ≡ s
       go : (r : Part) (s : Sought) → NoPart r → part_of octets r ≡ s → FoundOr Any s → then (error InvalidInput) ≡ then s
       go r missing n e f = sym m
       go r (error x) n e f = ap (λ x. then (error x)) (sym f)
-      go (At start len) (found l) n e f = ⊎_elim (λ z. absurd (omega arith)) (λ z. absurd (omega arith)) n
+      go (At start len) (found l) n e f = absurd (n start len refl)
       go Missing (found l) n e f = let z : ◌≡◌ {A = ℕ} 0 1 = cc in absurd (omega arith)
       go (Error x) (found l) n e f = let z : ◌≡◌ {A = ℕ} 0 1 = cc in absurd (omega arith)
 
