@@ -5,7 +5,6 @@ pub mod RowLaws
 pub mod Products
 pub mod HashLaws
 pub mod BucketLaws
-pub mod BucketWalks
 pub mod ScheduleLaws
 pub mod NameLaws
 pub mod OctetLaws

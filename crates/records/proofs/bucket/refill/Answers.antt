@@ -1,5 +1,5 @@
 -- `refill` meets its contract.
-use Rattle.std.proofs.Common.{sym, arith, rules}
+use Rattle.std.proofs.Common.{sym, arith}
 use Rattle.records.proofs.BucketLaws.{refill_none, refill_most, product_fits, refill_is}
 use Rattle.records.proofs.bucket.refill.Goals as goal
 

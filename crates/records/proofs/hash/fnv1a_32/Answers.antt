@@ -1,6 +1,6 @@
 -- `fnv1a_32` meets its contract. The invariant: the hash of the octets that are left, from h on, is the whole hash.
-use Rattle.std.proofs.Common.{◌≡◌, ◌-◌, ◌≤◌, length, drop, sym, refl, ◌∙◌, arith, rules}
-use Rattle.records.specs.Hash.{hash_from, fnv1a}
+use Rattle.std.proofs.Common.{sym, refl, ◌∙◌, arith}
+use Rattle.records.specs.Hash.{fnv1a}
 use Rattle.records.proofs.HashLaws.{hash_more, hash_end}
 use Rattle.records.proofs.hash.fnv1a_32.Goals as goal
 

@@ -1,5 +1,5 @@
 -- `fnv1a_step` meets its contract.
-use Rattle.std.proofs.Common.{◌∙◌, rules}
+use Rattle.std.proofs.Common.{◌∙◌}
 use lib.Bits.{xor_comm}
 use Rattle.records.specs.Hash.{hash_step}
 use Rattle.records.proofs.hash.fnv1a_step.Goals as goal

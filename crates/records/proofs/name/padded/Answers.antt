@@ -1,7 +1,7 @@
 -- `padded` meets its contract. The invariant: the places passed are written.
-use Rattle.std.proofs.Common.{◌≡◌, ℕ, ◌-◌, ◌<◌, ◌≤◌, cond, ltb, List, [], ◌∷◌, get_or, replicate, sym, refl, ap, ◌∙◌, ⊎_elim, arith, le-ltb, lt-ltb}
+use Rattle.std.proofs.Common.{◌≡◌, ℕ, ◌<◌, List, [], ◌∷◌, get_or, replicate, sym, refl, ap, ◌∙◌, arith, le-ltb, lt-ltb}
 use Rattle.records.specs.Name.{padded}
-use Rattle.records.specs.Octets.{tabulate, octet_at, overwritten}
+use Rattle.records.specs.Octets.{tabulate, overwritten}
 use Rattle.records.proofs.Booleans.{cond_yes, cond_no}
 use Rattle.records.proofs.NameLaws.{tabulate_at, overwritten_more, overwritten_whole}
 use Rattle.records.proofs.name.padded.Goals as goal

@@ -1,9 +1,6 @@
 -- `padded` meets its contract. The invariant: the places passed are written.
-use Rattle.std.proofs.Common.{◌≡◌, ℕ, ◌-◌, ◌<◌, ◌≤◌, cond, ltb, List, [], ◌∷◌, get_or, replicate, sym, refl, ap, ◌∙◌, ⊎_elim, arith, le-ltb, lt-ltb}
-use Rattle.records.specs.Name.{padded}
-use Rattle.records.specs.Octets.{tabulate, octet_at, overwritten}
-use Rattle.records.proofs.Booleans.{cond_yes, cond_no}
-use Rattle.records.proofs.NameLaws.{tabulate_at, overwritten_more, overwritten_whole}
+use Rattle.std.proofs.Common.{◌≡◌, ◌-◌, ◌≤◌, cond, ltb, replicate}
+use Rattle.records.specs.Octets.{octet_at, overwritten}
 use Rattle.records.proofs.name.padded.Given as goal
 
 abbrev pub invariant-loop-i : goal.invariant-loop-i

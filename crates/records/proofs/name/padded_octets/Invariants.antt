@@ -1,9 +1,6 @@
 -- `padded_octets` meets its contract. The invariant: the places passed are written.
-use Rattle.std.proofs.Common.{◌≡◌, ◌-◌, ◌≤◌, cond, ltb, length, replicate, sym, refl, ◌∙◌, ⊎_elim, arith, le-ltb, lt-ltb}
-use Rattle.records.specs.Name.{padded}
+use Rattle.std.proofs.Common.{◌≡◌, ◌-◌, ◌≤◌, cond, ltb, length, replicate}
 use Rattle.records.specs.Octets.{octet_at, overwritten}
-use Rattle.records.proofs.Booleans.{cond_yes, cond_no}
-use Rattle.records.proofs.NameLaws.{overwritten_more, overwritten_whole}
 use Rattle.records.proofs.name.padded_octets.Given as goal
 
 abbrev pub invariant-loop-i : goal.invariant-loop-i

@@ -1,5 +1,5 @@
 -- `octet_at` meets its contract.
-use Rattle.std.proofs.Common.{sym, rules}
+use Rattle.std.proofs.Common.{sym}
 use lib.ListN.{get_or-eq_default}
 use Rattle.records.proofs.octets.octet_at.Goals as goal
 

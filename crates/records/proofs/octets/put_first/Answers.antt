@@ -1,5 +1,5 @@
 -- `put_first` meets its contract. The invariant: the places passed are written.
-use Rattle.std.proofs.Common.{◌≡◌, ◌-◌, ◌≤◌, length, refl, ap, ◌∙◌, arith, rules}
+use Rattle.std.proofs.Common.{◌≡◌, length, refl, ap, ◌∙◌, arith}
 use Rattle.records.specs.Octets.{octet_at, overwritten}
 use Rattle.records.proofs.NameLaws.{overwritten_more, length_overwritten}
 use Rattle.records.proofs.octets.put_first.Goals as goal

@@ -1,5 +1,5 @@
 -- `put_octets` meets its contract.
-use Rattle.std.proofs.Common.{sym, ◌∙◌, arith, rules}
+use Rattle.std.proofs.Common.{sym, ◌∙◌, arith}
 use Rattle.records.specs.Octets.{octet_at}
 use Rattle.records.proofs.NameLaws.{overwritten_past, overwritten_none}
 use Rattle.records.proofs.octets.put_octets.Goals as goal

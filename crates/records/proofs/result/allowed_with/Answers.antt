@@ -1,5 +1,5 @@
 -- `allowed_with` meets its contract.
-use Rattle.std.proofs.Common.{sym, rules}
+use Rattle.std.proofs.Common.{sym}
 use Rattle.records.specs.Result.{allowed_with}
 use Rattle.records.proofs.Booleans.{and-true, and-false, answered}
 use Rattle.records.proofs.result.allowed_with.Goals as goal

@@ -1,5 +1,4 @@
 -- `AlertCode::code` meets its contract: each arm's number is that of its case.
-use Rattle.std.proofs.Common.{rules}
 use Rattle.records.proofs.alert.AlertCode.code.Goals as goal
 
 pub returns-in-Unspecified : goal.returns-in-Unspecified

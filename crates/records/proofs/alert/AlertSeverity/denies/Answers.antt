@@ -1,5 +1,5 @@
 -- `AlertSeverity::denies` meets its contract.
-use Rattle.std.proofs.Common.{leb, ap, rules}
+use Rattle.std.proofs.Common.{leb, ap}
 use Rattle.records.specs.Alert.{denies}
 use Rattle.records.proofs.alert.AlertSeverity.denies.Goals as goal
 

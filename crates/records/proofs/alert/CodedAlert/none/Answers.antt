@@ -1,5 +1,4 @@
 -- `CodedAlert::none` meets its contract.
-use Rattle.std.proofs.Common.{rules}
 use Rattle.records.specs.Alert.{no_alert}
 use Rattle.records.proofs.alert.CodedAlert.none.Goals as goal
 

@@ -1,5 +1,5 @@
 -- `RateBucket::first_call` meets its contract.
-use Rattle.std.proofs.Common.{◌≡◌, ◌-◌, arith, rules}
+use Rattle.std.proofs.Common.{◌≡◌, ◌-◌, arith}
 use Rattle.records.specs.Bucket.{first_call, bucket_with}
 use Rattle.records.proofs.bucket.RateBucket.first_call.Goals as goal
 

@@ -1,5 +1,5 @@
 -- `RateBucket::next_call` meets its contract.
-use Rattle.std.proofs.Common.{◌≡◌, ◌-◌, ltb, ap, ◌∙◌, arith, rules, ltb-false}
+use Rattle.std.proofs.Common.{◌≡◌, ◌-◌, ltb, ap, ◌∙◌, arith, ltb-false}
 use Rattle.records.specs.Bucket.{bucket_with, token_taken, next_call}
 use Rattle.records.proofs.bucket.RateBucket.next_call.Goals as goal
 

@@ -1,5 +1,5 @@
 -- `RateBucket::refilled` meets its contract.
-use Rattle.std.proofs.Common.{sym, ap, ◌∙◌, rules, le-ltb, lt-ltb, eq-eqb, ne_eqb}
+use Rattle.std.proofs.Common.{sym, ap, ◌∙◌, le-ltb, lt-ltb, eq-eqb, ne_eqb}
 use Rattle.records.specs.Bucket.{tokens_with, bucket_with, refilled_by, refilled}
 use Rattle.records.proofs.Booleans.{cond_yes, cond_no}
 use Rattle.records.proofs.bucket.RateBucket.refilled.Goals as goal

@@ -1,5 +1,4 @@
 -- `InspectResult::clean` meets its contract.
-use Rattle.std.proofs.Common.{rules}
 use Rattle.records.specs.Result.{clean_result}
 use Rattle.records.proofs.result.InspectResult.clean.Goals as goal
 

@@ -1,5 +1,5 @@
 -- `InspectResult::push_alert_with_code` meets its contract.
-use Rattle.std.proofs.Common.{sym, ◌∙◌, rules, le-ltb, lt-ltb}
+use Rattle.std.proofs.Common.{sym, ◌∙◌, le-ltb, lt-ltb}
 use Rattle.records.specs.Result.{counted, with_alert, truncated, pushed}
 use Rattle.records.proofs.Booleans.{cond_yes, cond_no}
 use Rattle.records.proofs.result.InspectResult.push_alert_with_code.Goals as goal

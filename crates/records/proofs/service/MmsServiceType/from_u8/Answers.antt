@@ -1,5 +1,5 @@
 -- `MmsServiceType::from_u8` meets its contract.
-use Rattle.std.proofs.Common.{sym, rules}
+use Rattle.std.proofs.Common.{sym}
 use lib.ListN.{get_or-eq_default}
 use Rattle.records.proofs.Lists.{get_d_any}
 use Rattle.records.specs.declared.service.MmsServiceType.TheVariants.{Unknown}

@@ -1,5 +1,5 @@
 -- `MmsServiceType::is_write` meets its contract.
-use Rattle.std.proofs.Common.{sym, ◌∙◌, rules, ne_eqb}
+use Rattle.std.proofs.Common.{sym, ◌∙◌, ne_eqb}
 use Rattle.records.specs.Service.{is_write}
 use Rattle.records.proofs.service.MmsServiceType.is_write.Goals as goal
 
