@@ -32,8 +32,7 @@ use Rattle.checks.specs.SvPublisher.{sv_publisher_count, with_sv_publisher, sv_a
 use Rattle.checks.specs.SvSeq.{kept_count, sv_checked}
 use Rattle.checks.specs.TimeField.{has_clock, TimeChecked, time_checked}
 use Rattle.monitor.specs.Monitor.{Monitor, Sized}
-use Rattle.monitor.specs.Reset.{new_totals, fresh_with, new_monitor}
-use Rattle.monitor.specs.Settings.{new_settings}
+use Rattle.monitor.specs.Reset.{new_totals, fresh_with}
 
 -- as long as the first
 abbrev AsLong : List ℕ → List ℕ → Type 0
