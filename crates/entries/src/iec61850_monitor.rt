@@ -113,7 +113,7 @@ impl Iec61850Monitor {
         read_only: bool,
         max_rate_per_sec: u16,
     ) -> Configured
-        ensures answer_value { record { monitor = monitor_of result.monitor.words; answer = result.answer }
+        ensures value { record { monitor = monitor_of result.monitor.words; answer = result.answer }
             ≡ mms_added_on (monitor_of self.words) service_mask read_only max_rate_per_sec }
         ensures numbers { AddNumbers (mms_rule_count (monitor_of self.words).mms_rules) 0 result.answer }
     {
@@ -127,7 +127,7 @@ impl Iec61850Monitor {
 
     // Adds a GOOSE publisher; an empty name fits any control block of the address.
     pub fn add_goose_publisher(self, src_mac: [u8; 6], go_cb_ref: &[u8]) -> Configured
-        ensures answer_value { record { monitor = monitor_of result.monitor.words; answer = result.answer }
+        ensures value { record { monitor = monitor_of result.monitor.words; answer = result.answer }
             ≡ goose_added_on (monitor_of self.words) (address_of src_mac) go_cb_ref.now }
         ensures numbers { AddNumbers (goose_publisher_count (monitor_of self.words).goose_publishers) (length go_cb_ref.now)
             result.answer }
@@ -147,7 +147,7 @@ impl Iec61850Monitor {
         svid: &[u8],
         expected_smp_rate: u16,
     ) -> Configured
-        ensures answer_value { record { monitor = monitor_of result.monitor.words; answer = result.answer }
+        ensures value { record { monitor = monitor_of result.monitor.words; answer = result.answer }
             ≡ sv_added_on (monitor_of self.words) (address_of src_mac) svid.now expected_smp_rate }
         ensures numbers { AddNumbers (sv_publisher_count (monitor_of self.words).sv_publishers) (length svid.now) result.answer }
     {
@@ -277,7 +277,7 @@ impl Iec61850Monitor {
 
     // The monitor after a raw SV frame, and the result.
     pub fn inspect_raw_sv(self, bytes: &[u8], timestamp_us: u64) -> RawInspected
-        ensures raw_value { record { monitor = monitor_of result.monitor.words; answer = result.raw }
+        ensures value { record { monitor = monitor_of result.monitor.words; answer = result.raw }
             ≡ inspect_raw_sv (monitor_of self.words) bytes.now timestamp_us }
         ensures numbers { ValuesOr 9 (parsed_row result.raw.answer) }
     {
