@@ -2,7 +2,7 @@
 use Prim.Native.Nat.{ℕ, ◌-◌, ◌<◌, ◌^◌}
 use mathlib.Core.Bool.{Bool, true, false, ◌&&◌, not, cond}
 use mathlib.Core.List.{List, [], ◌∷◌, ◌++◌}
-use mathlib.Core.Path.{◌≡◌, refl, sym, ap, ◌∙◌}
+use mathlib.Core.Path.{◌≡◌, refl, ap, ◌∙◌}
 use native.Mathlib.Decide.{ℕ_discrete, dec_lt}
 use native.Mathlib.Omega.{arith}
 use borrow.Author.Tests.{lt-ltb, le-ltb, le-leb, lt-leb, eq-eqb, ne_eqb}
@@ -13,7 +13,7 @@ use Rattle.records.specs.declared.frame.GooseFrame.{GooseFrame}
 use Rattle.records.specs.declared.schedule.RetxSchedule.{RetxSchedule}
 use Rattle.records.specs.Decide.{decide_pair, decide_list}
 use Rattle.records.specs.Hash.{fnv1a}
-use Rattle.records.specs.Legal.{OctetArray, LegalGoose}
+use Rattle.records.specs.Legal.{LegalGoose}
 use Rattle.checks.specs.GooseSeq.{replays}
 use Rattle.checks.specs.Keys.{flag_word}
 use Rattle.checks.specs.declared.sv_seq.SvSeqOutcome.TheVariants.{Replay, CycleWrap, SuspiciousSmpGap}

@@ -22,7 +22,8 @@ answer_from allowed codes (a ∷ rest) = answer_from ((allowed && not a.refuses)
 
 pub length_codes : (allowed : Bool) (codes : List ℕ) (findings : List Finding) → length (answer_from allowed codes findings).1 ≡ length codes + length findings
 length_codes allowed codes [] = omega arith
-length_codes allowed codes (a ∷ rest) = length_codes _ (codes ++ code_number a.code ∷ []) rest ∙ simp length-append (omega arith)
+length_codes allowed codes (a ∷ rest) =
+    length_codes ((allowed && not a.refuses) && not (denies a.severity)) (codes ++ code_number a.code ∷ []) rest ∙ simp length-append (omega arith)
 
 abbrev code : CodedAlert → ℕ
 code a = code_number a.code

@@ -207,11 +207,12 @@ pub record Left (m n n' : Monitor) (h : List Inspection) : Type 0 where
 -- the monitor that a history leaves
 pub left : {m n : Monitor} → Plain m n → (h : List Inspection) → Left m n (after_history n h) h
 left q [] = record { plain = q; tables = refl }
-left {m} q (x ∷ h) =
+left {m = m} {n = n} q (x ∷ h) =
     let d = done q x in
-    let r = left d.plain h in
+    let r = left {m = m} {n = (inspect n x).monitor} d.plain h in
     record { plain = r.plain; tables = r.tables ∙ ap (λ (v : Remembering). next_all m v h) d.tables }
 
 pub answers_from_lem : {m n : Monitor} → Plain m n → (further : List Inspection) → answers n further ≡ answers_from m (remembering n) further
 answers_from_lem q [] = refl
-answers_from_lem q (x ∷ further) = let d = done q x in rw (d.answer, answers_from_lem d.plain further, d.tables)
+answers_from_lem {m = m} {n = n} q (x ∷ further) =
+    let d = done q x in rw (d.answer, answers_from_lem {m = m} {n = (inspect n x).monitor} d.plain further, d.tables)

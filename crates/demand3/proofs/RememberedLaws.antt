@@ -243,13 +243,15 @@ module _ (m : Monitor) where
   pub remembers_history : {v : Remembering} {l : RememberedLists} → Remembers v l → (h : List Inspection) → Legal h
       → Remembers (next_all m v h) (foldl (lists_after m) l h)
   remembers_history r [] g = r
-  remembers_history r (x ∷ h) g = let p = legal_parts x h g in remembers_history (remembers_next m r x p.0) h p.1
+  remembers_history {v = v} {l = l} r (x ∷ h) g =
+      let p = legal_parts x h g in remembers_history {v = next m v x} {l = lists_after m l x} (remembers_next m r x p.0) h p.1
 
   pub answers_lists : {v : Remembering} {l : RememberedLists} → Remembers v l → (further : List Inspection) → Legal further
       → answers_from m v further ≡ list_answers m l further
   answers_lists r [] g = refl
-  answers_lists r (x ∷ further) g =
-      let p = legal_parts x further g in rw (findings_lists m r x p.0, answers_lists (remembers_next m r x p.0) further p.1)
+  answers_lists {v = v} {l = l} r (x ∷ further) g =
+      let p = legal_parts x further g in
+      rw (findings_lists m r x p.0, answers_lists {v = next m v x} {l = lists_after m l x} (remembers_next m r x p.0) further p.1)
 
 -- nothing remembered
 pub remembers_new : Remembers new_remembering no_lists

@@ -3,7 +3,6 @@ use Prim.Native.Nat.{ℕ}
 use mathlib.Core.Bool.{Bool}
 use mathlib.Core.List.{List, [], ◌∷◌, ◌++◌, foldl, foldl-append}
 use mathlib.Core.Path.{◌≡◌, refl, sym, ap, ◌∙◌}
-use Rattle.records.specs.declared.schedule.RetxSchedule.{RetxSchedule}
 use Rattle.monitor.specs.Monitor.{Monitor}
 use Rattle.monitor.specs.Parts.{mms_added_on, goose_added_on, sv_added_on}
 use Rattle.monitor.specs.Reset.{fresh_with, new_monitor, reset_monitor}
