@@ -46,7 +46,8 @@ again_reached replay first second r e = e ∙ sym (ap (λ (codes : List ℕ). (f
 first_decides : (allowed : Bool) (code : ℕ) (codes : List ℕ) (rest : List Finding)
     → refused_before (answer_from allowed (code ∷ codes) rest) ≡ before_stream code
 first_decides allowed code codes [] = refl
-first_decides allowed code codes (a ∷ rest) = first_decides _ code (codes ++ code_number a.code ∷ []) rest
+first_decides allowed code codes (a ∷ rest) =
+    first_decides ((allowed && not a.refuses) && not (denies a.severity)) code (codes ++ code_number a.code ∷ []) rest
 
 reached_by : (a : Finding) (rest : List Finding) → before_stream (code_number a.code) ≡ false → Reached (a ∷ rest)
 reached_by a rest e = first_decides _ (code_number a.code) [] rest ∙ e
