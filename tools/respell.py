@@ -19,7 +19,7 @@ KIT = os.path.dirname(os.path.dirname(os.path.dirname(subprocess.run(["rt", "doc
 LIB = os.path.join(os.path.dirname(subprocess.run(["rt", "doc"], capture_output=True, text=True).stdout.strip()), "rattle")
 WORD = r"[A-Za-z_\u2115\u2124][A-Za-z0-9_'\-\u2115\u2124\u2080-\u2089]*"
 TOKEN = re.compile(r"(?<![A-Za-z0-9_'\u2115-])" + WORD)
-DECLARED = re.compile(r"^ {0,4}(?:(?:abbrev|unfoldable|pub|private|data|record|ruleset|lem)\s+)*(" + WORD + r")(?:\s+" + WORD + r")*\s*(?:[:({]|$)")
+DECLARED = re.compile(r"^ *(?:(?:abbrev|unfoldable|pub|private|data|record|ruleset|lem)\s+)*(" + WORD + r")(?:\s+" + WORD + r")*\s*(?:[:({]|$)")
 
 
 def read(path):
@@ -57,7 +57,7 @@ def declared_names():
         for line in code_lines(read(path)):
             m = DECLARED.match(line)
             if m and re.search(r":(?: |$)", line):
-                for name in re.match(r"^ {0,4}(.*?)\s*(?:[({]|:(?: |$))", line).group(1).split():
+                for name in re.match(r"^ *(.*?)\s*(?:[({]|:(?: |$))", line).group(1).split():
                     if re.fullmatch(WORD, name) and name not in ("abbrev", "unfoldable", "pub", "data", "record", "use", "mod", "private", "ruleset"):
                         out.setdefault(name, []).append((path, line))
     return out

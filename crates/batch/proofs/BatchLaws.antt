@@ -66,9 +66,9 @@ module _ (m : Monitor) (frames : List ℕ) where
       unfolding sv_after
       after_more = rw add-one (ap (λ (x : After (List ℕ)). x.monitor) inspected)
 
-      pub verdicts-more : put ≡ sv_verdicts m frames octets (n + 1)
+      pub verdicts_more : put ≡ sv_verdicts m frames octets (n + 1)
       unfolding sv_verdicts
-      verdicts-more = rw add-one (ap (λ (x : After (List ℕ)). x.answer) inspected)
+      verdicts_more = rw add-one (ap (λ (x : After (List ℕ)). x.answer) inspected)
 
 -- a verdict put from a place on
 pub verdict_put_lem :

@@ -45,13 +45,13 @@ module _ (limit : ℕ) (kept pair : ℕ × ℕ) {known : Bool} where
         rw (e, le-ltb pair.0 kept.0 (omega arith), eq-eqb pair.0 kept.0 h, d) (sym (or-none (ltb 0 limit) (ltb pair.1 kept.1)))
 
     module _ (h : kept.0 < pair.0) where
-      pub alert-unlimited : limit ≡ 0 → false ≡ clock_alert limit (if_known known kept) pair
+      pub alert_unlimited : limit ≡ 0 → false ≡ clock_alert limit (if_known known kept) pair
       unfolding earlier
-      alert-unlimited z = rw (e, le-ltb pair.0 kept.0 (omega arith), ne_eqb pair.0 kept.0 (λ q. omega arith), le-ltb 0 limit (omega arith))
+      alert_unlimited z = rw (e, le-ltb pair.0 kept.0 (omega arith), ne_eqb pair.0 kept.0 (λ q. omega arith), le-ltb 0 limit (omega arith))
 
-      pub alert-ahead : (limit ≡ 0 → ⊥) → ltb limit (pair.0 - kept.0) ≡ clock_alert limit (if_known known kept) pair
+      pub alert_ahead : (limit ≡ 0 → ⊥) → ltb limit (pair.0 - kept.0) ≡ clock_alert limit (if_known known kept) pair
       unfolding earlier
-      alert-ahead z = rw (e, le-ltb pair.0 kept.0 (omega arith), ne_eqb pair.0 kept.0 (λ q. omega arith), lt-ltb 0 limit (omega arith))
+      alert_ahead z = rw (e, le-ltb pair.0 kept.0 (omega arith), ne_eqb pair.0 kept.0 (λ q. omega arith), lt-ltb 0 limit (omega arith))
 
 module _ (t : List ℕ) (limit address : ℕ) (pair : ℕ × ℕ) where
   -- a pair of zeros

@@ -23,6 +23,7 @@ pub fn rule_count(count: u64) -> usize
 }
 
 // Whether a rule with a name of this length can be added: a full list is refused before a long name.
+#[tactic(auto, using(crate::proofs::RuleLaws::list_full))]
 pub fn add_answer(count: u64, name_len: usize) -> Added
     ensures { result ≡ add_answer count name_len }
 {

@@ -431,7 +431,7 @@ module _ (strict : Bool) (settings : List Setting) (p : Premises (configured_mon
 
 unfoldable pub demand_3 : Demand3
 demand_3 strict settings p h h' g g' = record {
-  equal-lists-exactly-when-same-answers = (same, only (lists≟ (remembered_lists (block_test_frames m) h) (remembered_lists (block_test_frames m) h')));
+  equal_lists_exactly_when_same_answers = (same, only (lists≟ (remembered_lists (block_test_frames m) h) (remembered_lists (block_test_frames m) h')));
   unequal_lists_told_apart = distinguished strict settings p h h' g g';
 }
   where

@@ -152,7 +152,7 @@ same_legal =
 
 same_answers : SameAnswers (configured_monitor true settings) replay_history same_history
 same_answers =
-    (demand_3 true settings premises replay_history same_history replay_legal same_legal).equal-lists-exactly-when-same-answers.0 (same_lists _)
+    (demand_3 true settings premises replay_history same_history replay_legal same_legal).equal_lists_exactly_when_same_answers.0 (same_lists _)
 
 -- ---- a GOOSE replay, a blocked test frame, a clock that GOOSE and SV share, and the limits of counts and clocks
 

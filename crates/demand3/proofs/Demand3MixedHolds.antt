@@ -109,8 +109,8 @@ pub demand_3_mixed : Demand3Mixed
 demand_3_mixed strict settings p a a' g g' =
     let m = configured_monitor strict settings in
     let d = demand_3 strict settings p (inspections a) (inspections a') (legal_inspections a g) (legal_inspections a' g') in
-    let e = d.equal-lists-exactly-when-same-answers in
+    let e = d.equal_lists_exactly_when_same_answers in
     record {
-      equal-lists-exactly-when-same-answers = (λ q. from_inspections m a a' (e.0 q), λ q. e.1 (to_inspections m a a' q));
+      equal_lists_exactly_when_same_answers = (λ q. from_inspections m a a' (e.0 q), λ q. e.1 (to_inspections m a a' q));
       unequal_lists_told_apart = λ n. from_distinguished m a a' (d.unequal_lists_told_apart n);
     }

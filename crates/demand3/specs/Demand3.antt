@@ -203,7 +203,7 @@ module _ (m : Monitor) where
 
     -- the two sentences of the demand
     pub record Sentences : Type 0 where
-      pub equal-lists-exactly-when-same-answers : EqualLists ↔ SameAnswers
+      pub equal_lists_exactly_when_same_answers : EqualLists ↔ SameAnswers
       pub unequal_lists_told_apart : ¬ EqualLists → Distinguished
 
   -- for every two legal histories from this monitor, of any length

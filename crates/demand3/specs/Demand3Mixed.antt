@@ -76,7 +76,7 @@ module _ (m : Monitor) where
 
     -- the two sentences of the demand, with the lists of the inspections that arrivals are
     pub record MixedSentences : Type 0 where
-      pub equal-lists-exactly-when-same-answers : EqualLists m (inspections a) (inspections a') ↔ SameArrivalAnswers
+      pub equal_lists_exactly_when_same_answers : EqualLists m (inspections a) (inspections a') ↔ SameArrivalAnswers
       pub unequal_lists_told_apart : ¬ EqualLists m (inspections a) (inspections a') → MixedDistinguished
 
   -- for every two legal lists of arrivals from this monitor, of any length

@@ -27,6 +27,12 @@ pub unnamed_passed : (m : Monitor) (is_goose : Bool) (octets : List ℕ) (addres
 unfolding cb_checked key_of
 unnamed_passed m is_goose octets address h = rw h (left m (reservation_key is_goose (name_of octets 0)) address refl)
 
+-- the same with the key as it computes
+pub unnamed_key_passed : (m : Monitor) (number : ℕ) (octets : List ℕ) (len address : ℕ) → len ≡ 0
+    → cb_on m (key_of number (name_of octets len)) address ≡ record { monitor = m; answer = false }
+unfolding cb_checked key_of
+unnamed_key_passed m number octets len address h = rw h (sym (left m (key_of number (name_of octets 0)) address refl))
+
 pub unreserved_passed : (m : Monitor) (key : List ℕ) (address : ℕ) → all_free m.cb_reservations ≡ true
     → record { monitor = m; answer = false } ≡ cb_on m key address
 unfolding cb_checked

@@ -189,25 +189,25 @@ module _ (apdu : List ℕ) {r : Part} (e : r ≡ opened_place sav_pdu_tag apdu) 
       unfolding pdu_place
       by_first = ap (λ (r : Part). inside_at pdu r (opened_place asdu_tag)) e₂
 
-      pub asdu-no-a2 : NoPart r₂ → Failed InvalidInput ≡ asdu_place apdu
-      asdu-no-a2 n =
+      pub asdu_no_a2 : NoPart r₂ → Failed InvalidInput ≡ asdu_place apdu
+      asdu_no_a2 n =
           ap (shifted at) (none_inside pdu r₂ (any_first_place seq_asdu_tag pdu e₂) n (opened_place asdu_tag) ∙ by_first) ∙ in_pdu_lem
 
       module _
           {at₂ len₂ : ℕ} (k₂ : r₂ ≡ At at₂ len₂) (asdus : List ℕ) (c₂ : asdus ≡ take len₂ (drop at₂ pdu)) {r₃ : Part}
           (e₃ : r₃ ≡ opened_place asdu_tag asdus) where
-        in-a2 : shifted at (shifted at₂ r₃) ≡ asdu_place apdu
-        in-a2 =
+        in_a2_lem : shifted at (shifted at₂ r₃) ≡ asdu_place apdu
+        in_a2_lem =
             ap (λ (r : Part). shifted at (shifted at₂ r)) (e₃ ∙ ap (opened_place asdu_tag) c₂)
             ∙ ap (λ (r : Part). shifted at (inside_at pdu r (opened_place asdu_tag))) (sym k₂)
             ∙ ap (shifted at) by_first
             ∙ in_pdu_lem
 
-        pub asdu-unread : NoPart r₃ → Failed InvalidInput ≡ asdu_place apdu
-        asdu-unread n = ap (shifted at) (none_shifted asdus r₃ (any_opened_place asdu_tag asdus e₃) n at₂) ∙ in-a2
+        pub asdu_unread : NoPart r₃ → Failed InvalidInput ≡ asdu_place apdu
+        asdu_unread n = ap (shifted at) (none_shifted asdus r₃ (any_opened_place asdu_tag asdus e₃) n at₂) ∙ in_a2_lem
 
-        pub asdu-found : {at₃ len₃ : ℕ} → r₃ ≡ At at₃ len₃ → At (at + (at₂ + at₃)) len₃ ≡ asdu_place apdu
-        asdu-found q = ap (λ (r : Part). shifted at (shifted at₂ r)) (sym q) ∙ in-a2
+        pub asdu_found : {at₃ len₃ : ℕ} → r₃ ≡ At at₃ len₃ → At (at + (at₂ + at₃)) len₃ ≡ asdu_place apdu
+        asdu_found q = ap (λ (r : Part). shifted at (shifted at₂ r)) (sym q) ∙ in_a2_lem
 
 -- the frame of an APDU, by the answer to the search for its ASDU
 module _ (apdu source : List ℕ) (time : ℕ) (r : Part) (e : r ≡ asdu_place apdu) where

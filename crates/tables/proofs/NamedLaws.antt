@@ -6,6 +6,10 @@ use Rattle.records.proofs.NameLaws.{agree_at, overwritten_again}
 use Rattle.records.specs.Octets.{agree, overwritten}
 use Rattle.tables.specs.Named.{has_key, key_stored}
 
+-- what agrees up to k agrees up to n, where k is n
+pub agree_upto : (f g : ℕ → ℕ) (k n : ℕ) → agree f g k ≡ true → k ≡ n → true ≡ agree f g n
+agree_upto f g k n e q = sym e ∙ ap (agree f g) q
+
 -- the ways that a comparison of keys goes
 module _ (start : ℕ) (t key : List ℕ) (slot : ℕ) where
   pub key_outside : 16 ≤ slot → false ≡ has_key start t key slot
@@ -18,16 +22,16 @@ module _ (start : ℕ) (t key : List ℕ) (slot : ℕ) where
     sum_differs d = sym (and_yes (lt-ltb slot 16 h) (and_no _ (ne_eqb (get_or t (start + slot) 0) (get_or key 0 0) d)))
 
     module _ (e : get_or t (start + slot) 0 ≡ get_or key 0 0) where
-      pub length-differs : (get_or t (start + 16 + slot) 0 ≡ get_or key 1 0 → ⊥) → false ≡ has_key start t key slot
+      pub length_differs : (get_or t (start + 16 + slot) 0 ≡ get_or key 1 0 → ⊥) → false ≡ has_key start t key slot
       unfolding has_key
-      length-differs d =
+      length_differs d =
           sym (and_yes (lt-ltb slot 16 h) (and_yes (eq-eqb (get_or t (start + slot) 0) (get_or key 0 0) e)
           (and_no _ (ne_eqb (get_or t (start + 16 + slot) 0) (get_or key 1 0) d))))
 
-      pub name-decides : {r : Bool} → get_or t (start + 16 + slot) 0 ≡ get_or key 1 0
+      pub name_decides : {r : Bool} → get_or t (start + 16 + slot) 0 ≡ get_or key 1 0
           → r ≡ agree (λ k. get_or t (start + 32 + slot * 8 + k) 0) (λ k. get_or key (k + 2) 0) 8 → r ≡ has_key start t key slot
       unfolding has_key
-      name-decides l q =
+      name_decides l q =
           sym (and_yes (lt-ltb slot 16 h) (and_yes (eq-eqb (get_or t (start + slot) 0) (get_or key 0 0) e)
           (and_yes (eq-eqb (get_or t (start + 16 + slot) 0) (get_or key 1 0) l) (sym q))))
 

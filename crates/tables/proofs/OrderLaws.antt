@@ -232,8 +232,8 @@ module _ (t : List ℕ) (s : ℕ) where
     used_is n = cond_yes _ _ (and_yes (lt-ltb s 16 h) (ap not (ne_eqb (rank_of t s) 0 n)))
 
     module _ (z : 2 ≤ length t) where
-      pub used-rank : (i : ℕ) → i < 16 → rank_of (used_slot t s) i ≡ used_rank (rank_of t) s i
-      used-rank i l =
+      pub used_rank_lem : (i : ℕ) → i < 16 → rank_of (used_slot t s) i ≡ used_rank (rank_of t) s i
+      used_rank_lem i l =
           by_cases (ℕ_discrete (rank_of t s) 0)
           (λ e. ap (λ (u : List ℕ). rank_of u i) (sym (use_last e)) ∙ same e (ℕ_discrete i s))
           (λ n. rw (used_is n) (reranked_in t (used_rank (rank_of t) s) z
@@ -244,20 +244,20 @@ module _ (t : List ℕ) (s : ℕ) where
           same e (no q) = sym (cond_no _ _ (ne_eqb i s q) ∙ cond_no _ _ (le-ltb (rank_of t i) (rank_of t s) (omega arith)))
 
       -- both words after a use
-      pub use-done : {old first second : ℕ} → old ≡ rank_of t s → (old ≡ 0 → ⊥)
+      pub use_done : {old first second : ℕ} → old ≡ rank_of t s → (old ≡ 0 → ⊥)
           → first ≡ packed (λ j. cond (eqb (s / 8) 0 && eqb j (s % 8)) 0 (raised old (rank_in (get_or t 0 0) j))) 8
           → second ≡ packed (λ j. cond (eqb (s / 8) 1 && eqb j (s % 8)) 0 (raised old (rank_in (get_or (set t 0 first) 1 0) j))) 8
           → set (set t 0 first) 1 second ≡ used_slot t s
       unfolding reranked
-      use-done {old} {first} {second} o n p q =
-          let a : first ≡ packed (used_rank (rank_of t) s) 8 = p ∙ packed_same _ _ 8 (λ j l. used-at 0 j j l (omega arith) o refl) in
+      use_done {old} {first} {second} o n p q =
+          let a : first ≡ packed (used_rank (rank_of t) s) 8 = p ∙ packed_same _ _ 8 (λ j l. used_at 0 j j l (omega arith) o refl) in
           let c : second ≡ packed (λ j. used_rank (rank_of t) s (8 + j)) 8 =
-          q ∙ packed_same _ _ 8 (λ j l. used-at 1 j (8 + j) l (omega arith) o (get_or-set_other t 0 1 first 0 (λ e. omega arith))) in
+          q ∙ packed_same _ _ 8 (λ j l. used_at 1 j (8 + j) l (omega arith) o (get_or-set_other t 0 1 first 0 (λ e. omega arith))) in
           (λ i. set (set t 0 (a i)) 1 (c i)) ∙ sym (used_is (λ e. n (o ∙ e)))
         where
-          used-at : (h j i : ℕ) → j < 8 → i ≡ h * 8 + j → {old word : ℕ} → old ≡ rank_of t s → word ≡ get_or t h 0
+          used_at : (h j i : ℕ) → j < 8 → i ≡ h * 8 + j → {old word : ℕ} → old ≡ rank_of t s → word ≡ get_or t h 0
               → cond (eqb (s / 8) h && eqb j (s % 8)) 0 (raised old (rank_in word j)) ≡ used_rank (rank_of t) s i
-          used-at h j i l e o w =
+          used_at h j i l e o w =
               rw (o, w, own_place s h j i l e) (ap (λ (r : ℕ). cond (eqb i s) 0 (raised (rank_of t s) r)) (sym (rank_word t h j i l e)))
 
 -- ---- an entry forgotten
@@ -287,27 +287,27 @@ module _ (t : List ℕ) (s : ℕ) where
     forget_free e = sym (cond_no _ _ (and_yes (lt-ltb s 16 h) (le-ltb (rank_of t s) 16 e)))
 
     module _ (z : 2 ≤ length t) (e : rank_of t s < 16) where
-      forgotten-is : forgotten_slot t s ≡ reranked t (forgotten_rank (rank_of t) s)
+      forgotten_is : forgotten_slot t s ≡ reranked t (forgotten_rank (rank_of t) s)
       unfolding forgotten_slot
-      forgotten-is = cond_yes _ _ (and_yes (lt-ltb s 16 h) (lt-ltb (rank_of t s) 16 e))
+      forgotten_is = cond_yes _ _ (and_yes (lt-ltb s 16 h) (lt-ltb (rank_of t s) 16 e))
 
-      pub forgotten-rank : (i : ℕ) → i < 16 → rank_of (forgotten_slot t s) i ≡ forgotten_rank (rank_of t) s i
-      forgotten-rank i l =
-          rw forgotten-is (reranked_in t (forgotten_rank (rank_of t) s) z
+      pub forgotten_rank_lem : (i : ℕ) → i < 16 → rank_of (forgotten_slot t s) i ≡ forgotten_rank (rank_of t) s i
+      forgotten_rank_lem i l =
+          rw forgotten_is (reranked_in t (forgotten_rank (rank_of t) s) z
           (λ j m. updated_below (λ x. lowered (rank_of t s) (rank_of t x)) s 16 j (omega arith)
           (omega (arith, lowered_most (rank_of t s) (rank_of t j), rank_below t j))) i l)
 
       module _ {old first second : ℕ} (o : old ≡ rank_of t s) (p : first ≡ packed (λ j. lowered old (rank_in (get_or t 0 0) j)) 8)
           (q : second ≡ packed (λ j. lowered old (rank_in (get_or (set t 0 first) 1 0) j)) 8) where
-        lowered-each : (r : ℕ) → r < 128 → lowered old r < 128
-        lowered-each r l = omega (arith, lowered_most old r)
+        lowered_each : (r : ℕ) → r < 128 → lowered old r < 128
+        lowered_each r l = omega (arith, lowered_most old r)
 
-        pub forget-octet : octet_of (get_or (set (set t 0 first) 1 second) (s / 8) 0) (s % 8) ≡ old
-        forget-octet = own_octet t z (lowered old) lowered-each s h p q ∙ ap (lowered old) (sym o) ∙ lowered_self old
+        pub forget_octet : octet_of (get_or (set (set t 0 first) 1 second) (s / 8) 0) (s % 8) ≡ old
+        forget_octet = own_octet t z (lowered old) lowered_each s h p q ∙ ap (lowered old) (sym o) ∙ lowered_self old
 
-        pub forget-done : {word : ℕ} → word ≡ packed (updated (octet_of (get_or (set (set t 0 first) 1 second) (s / 8) 0)) (s % 8) 16) 8
+        pub forget_done : {word : ℕ} → word ≡ packed (updated (octet_of (get_or (set (set t 0 first) 1 second) (s / 8) 0)) (s % 8) 16) 8
             → set (set (set t 0 first) 1 second) (s / 8) word ≡ forgotten_slot t s
-        forget-done e =
-            own_replaced t z (lowered old) lowered-each s h p q 16 e
+        forget_done e =
+            own_replaced t z (lowered old) lowered_each s h p q 16 e
             ∙ ap (λ (x : ℕ). reranked t (updated (λ i. lowered x (rank_of t i)) s 16)) o
-            ∙ sym forgotten-is
+            ∙ sym forgotten_is

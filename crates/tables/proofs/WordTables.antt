@@ -12,8 +12,8 @@ use Rattle.records.specs.declared.search.Found.TheVariants.{At}
 use Rattle.records.specs.Octets.{tabulate, overwritten}
 use Rattle.records.specs.Remembered.{without, after}
 use Rattle.records.specs.Search.{slot_or}
-use Rattle.tables.proofs.NamedLaws.{name-decides, has_key_lem}
-use Rattle.tables.proofs.OrderLaws.{rank_same, free_rank, used_only, used-rank, forgotten_only, forgotten-rank}
+use Rattle.tables.proofs.NamedLaws.{name_decides, has_key_lem}
+use Rattle.tables.proofs.OrderLaws.{rank_same, free_rank, used_only, used_rank_lem, forgotten_only, forgotten_rank_lem}
 use Rattle.tables.proofs.RankTable.{Table, Represents, represents_forgotten}
 use Rattle.tables.specs.declared.place.Place.{Place}
 use Rattle.tables.specs.Column.{word_of, word_set, zero_words}
@@ -155,7 +155,7 @@ module _ {K W : Type 0} (keys : KeyColumns K) (L : KeyColumnLaws keys) (encoding
     pub value_rank : (i : ℕ) → i < 16 → rank_of with_value i ≡ used_rank (rank_of t) s i
     value_rank i l =
         rank_same with_use with_value i l (λ x o. below x (omega (arith, L.behind)))
-        ∙ used-rank with_key s h (omega (arith, L.stored_length t s k h, L.behind)) i l
+        ∙ used_rank_lem with_key s h (omega (arith, L.stored_length t s k h, L.behind)) i l
         ∙ rw (same s h, same i l)
       where
         same : (j : ℕ) → j < 16 → rank_of with_key j ≡ rank_of t j
@@ -230,7 +230,7 @@ module _ {K W : Type 0} (keys : KeyColumns K) (L : KeyColumnLaws keys) (encoding
         let u = ltb-true (rank_of t s) 16 e in
         represents_forgotten (table keys L encoding E) dec r s h e
         ((forgotten_only t s).size ∙ r.sized)
-        (forgotten-rank t s h (omega (arith, r.sized, L.behind)) u)
+        (forgotten_rank_lem t s h (omega (arith, r.sized, L.behind)) u)
         (λ i.
         let p = L.reads t (forgotten_slot t s) i (λ x l g. (forgotten_only t s).rest x (omega arith)) in
         let q = E.same _ _ (λ j l. word_same t (forgotten_slot t s) (j * 16 + keys.values) i (λ g. (forgotten_only t s).rest _ (omega (arith, L.behind)))) in
@@ -344,7 +344,7 @@ module _ (start : ℕ) (t k : List ℕ) (i : ℕ) (h : i < 16) where
     λ e. let m = has_key_lem start t k i e in sym (key_is g m.sum m.size m.word),
     λ e.
         let at : (j : ℕ) → get_or (key_at start t i) j 0 ≡ get_or k j 0 = λ j. ap (λ (l : List ℕ). get_or l j 0) (sym e) in
-        sym (name-decides start t k i h (sym (word_at t i h start) ∙ at 0) (sym (word_at t i h (start + 16)) ∙ at 1) (sym (agree_all _ _ 8 (λ j l.
+        sym (name_decides start t k i h (sym (word_at t i h start) ∙ at 0) (sym (word_at t i h (start + 16)) ∙ at 1) (sym (agree_all _ _ 8 (λ j l.
         let q : suc (suc j) ≡ j + 2 = omega arith in
         sym (tabulate_at (name_at start t i) 8 j 0 l ∙ name_at_lem j) ∙ at (suc (suc j)) ∙ ap (λ (x : ℕ). get_or k x 0) q)))),
   )

@@ -19,6 +19,7 @@ const LENGTHS: usize = 16;
 const NAMES: usize = 32;
 
 // Whether the eight words from a start on are those of a key's name.
+#[tactic(auto, using(crate::proofs::NamedLaws::agree_upto))]
 fn has_name(t: &[u64], start: usize, key: &[u64; 10]) -> bool
     requires { start + 8 ≤ length t.now }
     ensures { result ≡ agree (λ k. slice_index t.now (start + k)) (λ k. slice_index key.now (k + 2)) 8 }

@@ -31,17 +31,17 @@ module _ (type : ℕ) (octets : List ℕ) {at : ℕ} (e : at ≡ appid_at octets
     apdu_other n = rw (← e, le-leb (at + 8) (length octets) there, ← f, ne_eqb found type n)
 
     module _ (same : found ≡ type) {len : ℕ} (l : len ≡ pair_at octets (at + 2)) where
-      pub apdu-small : len < 8 → apdu_of type octets ≡ Refused
+      pub apdu_small : len < 8 → apdu_of type octets ≡ Refused
       unfolding apdu_of
-      apdu-small h = rw (← e, le-leb (at + 8) (length octets) there, ← f, eq-eqb found type same, ← l, lt-leb 8 len h)
+      apdu_small h = rw (← e, le-leb (at + 8) (length octets) there, ← f, eq-eqb found type same, ← l, lt-leb 8 len h)
 
-      pub apdu-past : 8 ≤ len → length octets < at + len → apdu_of type octets ≡ Refused
+      pub apdu_past : 8 ≤ len → length octets < at + len → apdu_of type octets ≡ Refused
       unfolding apdu_of
-      apdu-past h g = rw (← e, le-leb (at + 8) (length octets) there, ← f, eq-eqb found type same, ← l, le-leb 8 len h, lt-leb (at + len) (length octets) g)
+      apdu_past h g = rw (← e, le-leb (at + 8) (length octets) there, ← f, eq-eqb found type same, ← l, le-leb 8 len h, lt-leb (at + len) (length octets) g)
 
-      pub apdu-is : 8 ≤ len → at + len ≤ length octets → apdu_of type octets ≡ At (at + 8) (at + len)
+      pub apdu_is : 8 ≤ len → at + len ≤ length octets → apdu_of type octets ≡ At (at + 8) (at + len)
       unfolding apdu_of
-      apdu-is h g = rw (← e, le-leb (at + 8) (length octets) there, ← f, eq-eqb found type same, ← l, le-leb 8 len h, le-leb (at + len) (length octets) g)
+      apdu_is h g = rw (← e, le-leb (at + 8) (length octets) there, ← f, eq-eqb found type same, ← l, le-leb 8 len h, le-leb (at + len) (length octets) g)
 
 -- an APDU does not end before it starts
 pub apdu_order : (type : ℕ) (octets : List ℕ) {start end : ℕ} → (header type octets).apdu ≡ At start end → start ≤ end

@@ -74,12 +74,12 @@ module _ (whole : List ℕ) where
   elements_of_stand : (n at : ℕ) → at ≤ length whole → Stands at (elements_of n (drop at whole))
   unfolding elements_of
   elements_of_stand zero at h = tt
-  elements_of_stand (suc n) at h = by-octets (drop at whole) refl (elements_of_stand n)
+  elements_of_stand (suc n) at h = by_octets (drop at whole) refl (elements_of_stand n)
     where
-      by-element : (l : List ℕ) → drop at whole ≡ l → (e : Element) → element l ≡ e
+      by_element : (l : List ℕ) → drop at whole ≡ l → (e : Element) → element l ≡ e
           → ((a : ℕ) → a ≤ length whole → Stands a (elements_of n (drop a whole))) → Stands at (element_then (elements_of n) l e)
-      by-element l q Unreadable k f = tt
-      by-element l q (Read tag start len end) k f = (stands, bound, follows)
+      by_element l q Unreadable k f = tt
+      by_element l q (Read tag start len end) k f = (stands, bound, follows)
         where
           inside : (2 ≤ end) × (end ≤ length l) × (start + len ≡ end)
           inside = element_end l k
@@ -87,27 +87,27 @@ module _ (whole : List ℕ) where
           size : length l ≡ length whole - at
           size = ap length (sym q) ∙ length-drop at whole
 
-          content-size : length (take len (drop start l)) ≡ len
-          content-size = length-take len (drop start l) ∙ omega (arith, length-drop start l, inside.1, inside.2)
+          content_size : length (take len (drop start l)) ≡ len
+          content_size = length-take len (drop start l) ∙ omega (arith, length-drop start l, inside.1, inside.2)
 
           stands : take len (drop start l) ≡ take (length (take len (drop start l))) (drop (at + start) whole)
           stands =
               ap (take len) (ap (drop start) (sym q) ∙ drop-drop start at whole)
-              ∙ ap (λ (m : ℕ). take m (drop (at + start) whole)) (sym content-size)
+              ∙ ap (λ (m : ℕ). take m (drop (at + start) whole)) (sym content_size)
 
           bound : at + start + length (take len (drop start l)) ≤ length whole
-          bound = omega (arith, content-size, size, inside.1, inside.2)
+          bound = omega (arith, content_size, size, inside.1, inside.2)
 
           follows : Stands (at + start + length (take len (drop start l))) (elements_of n (drop end l))
           follows =
-              let place : at + start + length (take len (drop start l)) ≡ at + end = omega (arith, content-size, inside.2) in
+              let place : at + start + length (take len (drop start l)) ≡ at + end = omega (arith, content_size, inside.2) in
               let rest : drop end l ≡ drop (at + end) whole = ap (drop end) (sym q) ∙ drop-drop end at whole in
               rw (place, rest) (f (at + end) (omega (arith, size, inside.1)))
 
-      by-octets : (l : List ℕ) → drop at whole ≡ l
+      by_octets : (l : List ℕ) → drop at whole ≡ l
           → ((a : ℕ) → a ≤ length whole → Stands a (elements_of n (drop a whole))) → Stands at (elements_then (elements_of n) l)
-      by-octets [] q f = tt
-      by-octets (o ∷ more) q f = by-element (o ∷ more) q (element (o ∷ more)) refl f
+      by_octets [] q f = tt
+      by_octets (o ∷ more) q f = by_element (o ∷ more) q (element (o ∷ more)) refl f
 
   pub elements_stand : Stands 0 (elements whole)
   elements_stand = elements_of_stand (length whole) 0 (omega arith)
@@ -120,16 +120,16 @@ module _ (whole : List ℕ) where
     unfolding first_place first_content
     first_agrees at ended s = (refl, tt)
     first_agrees at (failed e) s = (refl, tt)
-    first_agrees at (next other head content rest) s = by-tag (eqb other tag) (first_agrees (at + head + length content) rest s.2)
+    first_agrees at (next other head content rest) s = by_tag (eqb other tag) (first_agrees (at + head + length content) rest s.2)
       where
-        by-tag : (b : Bool)
+        by_tag : (b : Bool)
             → (part_of whole (first_place tag (at + head + length content) rest) ≡ first_content tag rest)
             × PartWithin (length whole) (first_place tag (at + head + length content) rest)
             → (part_of whole (cond b (At (at + head) (length content)) (first_place tag (at + head + length content) rest))
             ≡ cond b (found content) (first_content tag rest))
             × PartWithin (length whole) (cond b (At (at + head) (length content)) (first_place tag (at + head + length content) rest))
-        by-tag true f = (ap found (sym s.0), s.1)
-        by-tag false f = f
+        by_tag true f = (ap found (sym s.0), s.1)
+        by_tag false f = f
 
     pub first_part : part_of whole (first_place tag 0 (elements whole)) ≡ first_content tag (elements whole)
     first_part = (first_agrees 0 (elements whole) elements_stand).0

@@ -4,7 +4,7 @@ use native.Mathlib.Omega.{arith}
 use lib.ListN.{length}
 use Rattle.monitor.specs.Monitor.{monitor_of}
 use Rattle.batch.specs.Batch.{sv_batch_of}
-use Rattle.batch.proofs.BatchLaws.{record_fits, all_passed, none_after, no_verdicts, length_verdicts, after_more, verdicts-more}
+use Rattle.batch.proofs.BatchLaws.{record_fits, all_passed, none_after, no_verdicts, length_verdicts, after_more, verdicts_more}
 use Rattle.batch.proofs.inspect_sv_batch.Goals as goal
 
 pub loop-i-init : goal.loop-i-init
@@ -20,7 +20,7 @@ loop-i-preserved c =
     let e = c.inspect_sv_into.ensures in (
       omega arith,
       after_more m a.frames.now l.i a.verdicts.now l.invariant.1 l.invariant.2 e,
-      verdicts-more m a.frames.now l.i a.verdicts.now l.invariant.1 l.invariant.2 e,
+      verdicts_more m a.frames.now l.i a.verdicts.now l.invariant.1 l.invariant.2 e,
     )
 
 pub shape_of-verdicts : goal.shape_of-verdicts

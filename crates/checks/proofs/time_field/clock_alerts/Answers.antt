@@ -1,7 +1,7 @@
 -- `clock_alerts` meets its contract.
 use native.Mathlib.Omega.{arith}
 use borrow.Author.Tests.{not-true, not-false}
-use Rattle.checks.proofs.TimeFieldLaws.{alert_new, alert_earlier, alert_same, alert-unlimited, alert-ahead}
+use Rattle.checks.proofs.TimeFieldLaws.{alert_new, alert_earlier, alert_same, alert_unlimited, alert_ahead}
 use Rattle.checks.proofs.time_field.clock_alerts.Goals as goal
 
 pub returns-then-not-known : goal.returns-then-not-known
@@ -16,9 +16,9 @@ returns-then-now-kept_seconds-2 c = let a = c.args in alert_same a.limit (a.kept
     (not-false a.known c.if-not-known.false-raw) c.if-now-kept_seconds-2.true
 
 pub returns-then-limit-eq0 : goal.returns-then-limit-eq0
-returns-then-limit-eq0 c = let a = c.args in alert-unlimited a.limit (a.kept_seconds, a.kept_fraction)
+returns-then-limit-eq0 c = let a = c.args in alert_unlimited a.limit (a.kept_seconds, a.kept_fraction)
     (a.seconds, a.fraction) (not-false a.known c.if-not-known.false-raw) (omega arith) c.if-limit-eq0.true
 
 pub returns : goal.returns
-returns c = let a = c.args in alert-ahead a.limit (a.kept_seconds, a.kept_fraction)
+returns c = let a = c.args in alert_ahead a.limit (a.kept_seconds, a.kept_fraction)
     (a.seconds, a.fraction) (not-false a.known c.if-not-known.false-raw) (omega arith) c.if-limit-eq0.false

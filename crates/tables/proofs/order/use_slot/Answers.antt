@@ -1,6 +1,6 @@
 -- `use_slot` meets its contract.
 use Rattle.std.proofs.Common.{sym, refl, ◌∙◌, arith, get_or-set_other}
-use Rattle.tables.proofs.OrderLaws.{rank_below, use_outside, use_last, own_rank, use-done}
+use Rattle.tables.proofs.OrderLaws.{rank_below, use_outside, use_last, own_rank, use_done}
 use Rattle.tables.proofs.order.use_slot.Goals as goal
 
 pub returns-then-slot-ge16 : goal.returns-then-slot-ge16
@@ -26,4 +26,4 @@ used_word-requires-2 c = let a = c.args in (
 )
 
 pub returns : goal.returns
-returns c = use-done _ _ c.if-slot-ge16.false (omega arith) c.rank_at-old.ensures c.if-old-eq0.false c.used_word.ensures c.used_word-2.ensures
+returns c = use_done _ _ c.if-slot-ge16.false (omega arith) c.rank_at-old.ensures c.if-old-eq0.false c.used_word.ensures c.used_word-2.ensures

@@ -1,7 +1,7 @@
 -- `apdu_of` meets its contract.
 use native.Mathlib.Omega.{arith}
 use mathlib.Core.Path.{sym}
-use Rattle.wire.proofs.HeaderLaws.{appid_range, apdu_short, apdu_other, apdu-small, apdu-past, apdu-is}
+use Rattle.wire.proofs.HeaderLaws.{appid_range, apdu_short, apdu_other, apdu_small, apdu_past, apdu_is}
 use Rattle.wire.proofs.header.apdu_of.Goals as goal
 
 pub returns-then-bytes-start : goal.returns-then-bytes-start
@@ -20,17 +20,17 @@ overflow_add-at c = omega (arith, c.appid_at-at.ensures, appid_range c.args.byte
 pub returns-then-length-lt8 : goal.returns-then-length-lt8
 returns-then-length-lt8 c = let a = c.args in
     sym
-    (apdu-small a.ethertype a.bytes.now c.appid_at-at.ensures (omega arith) c.pair_at.ensures c.if-pair_at-ethertype.false
+    (apdu_small a.ethertype a.bytes.now c.appid_at-at.ensures (omega arith) c.pair_at.ensures c.if-pair_at-ethertype.false
     c.pair_at-length.ensures c.if-length-lt8.true)
 
 pub returns-then-bytes-start-2 : goal.returns-then-bytes-start-2
 returns-then-bytes-start-2 c = let a = c.args in
     sym
-    (apdu-past a.ethertype a.bytes.now c.appid_at-at.ensures (omega arith) c.pair_at.ensures c.if-pair_at-ethertype.false
+    (apdu_past a.ethertype a.bytes.now c.appid_at-at.ensures (omega arith) c.pair_at.ensures c.if-pair_at-ethertype.false
     c.pair_at-length.ensures c.if-length-lt8.false c.if-bytes-start-2.true)
 
 pub returns : goal.returns
 returns c = let a = c.args in
     sym
-    (apdu-is a.ethertype a.bytes.now c.appid_at-at.ensures (omega arith) c.pair_at.ensures c.if-pair_at-ethertype.false
+    (apdu_is a.ethertype a.bytes.now c.appid_at-at.ensures (omega arith) c.pair_at.ensures c.if-pair_at-ethertype.false
     c.pair_at-length.ensures c.if-length-lt8.false c.if-bytes-start-2.false)
