@@ -1,6 +1,6 @@
 -- Laws of the use of a control block or data set: without a name, and without reservations, it changes nothing.
 use Prim.Native.Nat.{ℕ}
-use mathlib.Core.Bool.{Bool, true, false}
+use mathlib.Core.Bool.{true, false}
 use mathlib.Core.List.{List}
 use mathlib.Core.Path.{◌≡◌, refl, sym, ap}
 use lib.Dec.{eqb}
@@ -11,7 +11,6 @@ use Rattle.tables.specs.Key.{key_of}
 use Rattle.tables.specs.Named.{named}
 use Rattle.tables.specs.Order.{all_free}
 use Rattle.tables.proofs.PlaceLaws.{none_found_lem}
-use Rattle.checks.specs.Keys.{reservation_key}
 use Rattle.checks.specs.Reservation.{CbChecked, bound_by, cb_checked}
 use Rattle.monitor.specs.Monitor.{Monitor, with_cb_reservations}
 use Rattle.monitor.specs.Parts.{after, cb_on}
@@ -22,16 +21,10 @@ left : (m : Monitor) (key : List ℕ) (address : ℕ) → cb_checked m.cb_reserv
 unfolding cb_on
 left m key address e = sym (ap (after (with_cb_reservations m) (λ (c : CbChecked). c.table) (λ (c : CbChecked). c.hijack)) e)
 
-pub unnamed_passed : (m : Monitor) (is_goose : Bool) (octets : List ℕ) (address : ℕ) {len : ℕ} → len ≡ 0
-    → record { monitor = m; answer = false } ≡ cb_on m (reservation_key is_goose (name_of octets len)) address
-unfolding cb_checked key_of
-unnamed_passed m is_goose octets address h = rw h (left m (reservation_key is_goose (name_of octets 0)) address refl)
-
--- the same with the key as it computes
-pub unnamed_key_passed : (m : Monitor) (number : ℕ) (octets : List ℕ) (len address : ℕ) → len ≡ 0
+pub unnamed_passed : (m : Monitor) (number : ℕ) (octets : List ℕ) (len address : ℕ) → len ≡ 0
     → cb_on m (key_of number (name_of octets len)) address ≡ record { monitor = m; answer = false }
 unfolding cb_checked key_of
-unnamed_key_passed m number octets len address h = rw h (sym (left m (key_of number (name_of octets 0)) address refl))
+unnamed_passed m number octets len address h = rw h (sym (left m (key_of number (name_of octets 0)) address refl))
 
 pub unreserved_passed : (m : Monitor) (key : List ℕ) (address : ℕ) → all_free m.cb_reservations ≡ true
     → record { monitor = m; answer = false } ≡ cb_on m key address

@@ -110,7 +110,7 @@ fn sv_time_field(m: &mut [u64; WORDS], svid: &[u64; 10], n: SvNumbers, rate: u16
 }
 
 // The use of a data set by an address, and whether it is bound to another. Most frames name none: no key is made of it.
-#[tactic(auto, using(crate::proofs::HijackLaws::unnamed_key_passed))]
+#[tactic(auto, using(crate::proofs::HijackLaws::unnamed_passed))]
 fn dataset_hijacked(m: &mut [u64; WORDS], dataset: &[u8; 64], len: u8, address: u64) -> bool
     ensures { record { monitor = monitor_of m.new; answer = result }
         ≡ cb_on (monitor_of m.old) (reservation_key false (name_of dataset.now len)) address }
