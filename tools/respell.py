@@ -92,7 +92,7 @@ def mapping():
     for t in sorted(declared):
         if "-" not in t or t in library or not re.match(r"[a-z]", t):
             continue
-        new = unhumped(t).replace("-", "_")
+        new = CHOSEN.get(t) or unhumped(t).replace("-", "_")
         if new in taken:
             clashes.append((t, new + "_lem"))
             new += "_lem"
@@ -102,6 +102,8 @@ def mapping():
 
 
 TERMS = ("svID", "svId", "stNum", "sqNum", "smpCnt", "datSet", "refrTm", "goCBRef", "goCbRef", "smpRate", "confRev", "timeAllowedToLive")
+# A field and a local value that would have a definition's name, and are no lemmas.
+CHOSEN = {"second-answer": "whole_answer", "with-alert": "noted_verdict"}
 # Lemmas and variables that are spelled as a definition will be
 LEMMAS = ("numbers_after", "none_found", "place_at", "read_at", "position_from")
 
@@ -115,7 +117,8 @@ def turned(text, names):
 
 
 def turned_note(note, names):
-    """A comment: only whole names with a hump, and no term of the standards."""
+    """A comment: only whole names with a hump, and no term of the standards; in backticks names with a dash too."""
+    note = re.sub(r"`[^`\n]+`", lambda m: turned(m.group(0), names), note)
     return TOKEN.sub(lambda m: names.get(m.group(0), m.group(0)) if "-" not in m.group(0) and m.group(0) not in TERMS else m.group(0), note)
 
 
@@ -160,7 +163,7 @@ def main():
         put(path, turned_rt(read(path), names))
     for path in glob.glob("crates/*/must-fail/*.edit"):
         lines = read(path).split("\n")
-        put(path, "\n".join(turned(l, names) if l.startswith(("old:", "new:")) else l for l in lines))
+        put(path, "\n".join(turned(l, names) if l.startswith(("old:", "new:")) else turned_note(l, names) for l in lines))
     for path in ["README.md"] + glob.glob("docs/**/*.md", recursive=True) + glob.glob("tests/**/*.md", recursive=True):
         put(path, turned_page(read(path), names))
     print("respelled:", len(names), "names;", len(clashes), "would have fallen together")

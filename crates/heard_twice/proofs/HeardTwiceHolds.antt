@@ -92,7 +92,7 @@ module _ (m : Monitor) (z : Sized m) where
   heard_twice_on : HeardTwiceOn m
   heard_twice_on = record {
     second_refused = λ x time time'. ap (λ (a : Answer). a.0) (answered x time time');
-    second_answer_lem = answered;
+    whole_answer = answered;
   }
 
 -- as calls leave them

@@ -90,14 +90,14 @@ refused_before (allowed, []) = not allowed
 refused_before (allowed, code ∷ codes) = before_stream code
 
 -- the second copy is refused: with the codes of the first where that was refused before the check of its stream, otherwise with replay alone. An outsider
--- that is not stored (request 13, code 44) may pass twice: it would be a case here, and excepted from `second-refused`
+-- that is not stored (request 13, code 44) may pass twice: it would be a case here, and excepted from `second_refused`
 abbrev pub refused_again : ℕ → Answer → Answer
 refused_again replay first = (false, cond (refused_before first) first.1 (replay ∷ []))
 
 -- for every frame, whatever its fields or octets, and every two times: the request's words, and the whole answer, from which they follow
 pub record HeardTwiceOn (m : Monitor) : Type 0 where
   pub second_refused : (x : Delivered) (time time' : ℕ) → (second_answer m x time time').0 ≡ false
-  pub second_answer_lem : (x : Delivered) (time time' : ℕ) → second_answer m x time time' ≡ refused_again (replay_code x) (first_answer m x time)
+  pub whole_answer : (x : Delivered) (time time' : ℕ) → second_answer m x time time' ≡ refused_again (replay_code x) (first_answer m x time)
 
 -- ---- the claims
 

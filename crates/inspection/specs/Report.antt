@@ -173,7 +173,7 @@ allowed_octet octet severity refuses = cond (refuses || denies severity) 0 octet
 
 -- a verdict with one more alert in the next of its three places, as its result has it, and the counters after it. One with three alerts is left
 unfoldable pub alert_noted : Noted → Finding → Noted
-alert_noted n f = cond (ltb count 3) (record { verdict = with_alert_lem; counters = counted n.counters }) n
+alert_noted n f = cond (ltb count 3) (record { verdict = noted_verdict; counters = counted n.counters }) n
   where
     count : ℕ
     count = get_or n.verdict 1 0
@@ -181,8 +181,8 @@ alert_noted n f = cond (ltb count 3) (record { verdict = with_alert_lem; counter
     flagged : List ℕ
     flagged = set (set n.verdict 0 (allowed_octet (get_or n.verdict 0 0) f.severity f.refuses)) 1 (count + 1)
 
-    with_alert_lem : List ℕ
-    with_alert_lem = set (set flagged (2 + 2 * count) (code_number f.code)) (2 + 2 * count + 1) (severity_number f.severity)
+    noted_verdict : List ℕ
+    noted_verdict = set (set flagged (2 + 2 * count) (code_number f.code)) (2 + 2 * count + 1) (severity_number f.severity)
 
 -- the verdict of an inspection, in place of its result
 abbrev pub with_verdict : After InspectResult → After (List ℕ)
