@@ -17,4 +17,4 @@ returns-then-value-gt65535 c = let a = c.before.before.before.before.before.args
 
 pub returns : goal.returns
 returns c = let a = c.before.before.before.before.before.args in
-    sym (further_is a.n a.further.now (omega arith) (omega arith) c.big_endian-value.ensures c.if-value-gt65535.false)
+    sym (further_is a.n a.further.now (omega arith) (omega arith) c.big_endian-value.ensures (omega arith))

@@ -27,10 +27,10 @@ pub returns-then-bytes-start-2 : goal.returns-then-bytes-start-2
 returns-then-bytes-start-2 c = let a = c.args in
     sym
     (apdu_past a.ethertype a.bytes.now c.appid_at-at.ensures (omega arith) c.pair_at.ensures c.if-pair_at-ethertype.false
-    c.pair_at-length.ensures c.if-length-lt8.false c.if-bytes-start-2.true)
+    c.pair_at-length.ensures (omega arith) c.if-bytes-start-2.true)
 
 pub returns : goal.returns
 returns c = let a = c.args in
     sym
     (apdu_is a.ethertype a.bytes.now c.appid_at-at.ensures (omega arith) c.pair_at.ensures c.if-pair_at-ethertype.false
-    c.pair_at-length.ensures c.if-length-lt8.false c.if-bytes-start-2.false)
+    c.pair_at-length.ensures (omega arith) c.if-bytes-start-2.false)

@@ -16,4 +16,4 @@ returns-then-value-gt65535 c = let a = c.args in
 
 pub returns : goal.returns
 returns c = let a = c.args in
-    sym (unsigned_is a.content.now (omega arith) (omega arith) c.big_endian-value.ensures c.if-value-gt65535.false)
+    sym (unsigned_is a.content.now (omega arith) (omega arith) c.big_endian-value.ensures (omega arith))
