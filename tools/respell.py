@@ -6,7 +6,6 @@ usage: tools/respell.py [--dry]     at the top of the repository
 - A definition, lemma, field, constructor or variable written as `someName` becomes `some_name`.
 - A definition, lemma or field that a file of specs/ or of proofs/ declares as `some-name` becomes `some_name`. Where another name of the
   repository is spelled so already, the lemma gets `_lem` behind it. A name that the kit's library has too keeps its dash.
-- A fact (its type ends in `Type`) is in upper camel case.
 Functions and types of src/, exported names, strings, inputs and outputs keep theirs. Names in backticks of README.md and docs/ go along.
 """
 import glob
@@ -15,8 +14,8 @@ import re
 import subprocess
 import sys
 
-KIT = os.path.dirname(os.path.dirname(os.path.dirname(subprocess.run(["rt", "doc"], capture_output=True, text=True).stdout.strip() or "/x/x/x")))
-LIB = os.path.join(os.path.dirname(subprocess.run(["rt", "doc"], capture_output=True, text=True).stdout.strip()), "rattle")
+# the kit's library: beside the page that `rt doc` names
+LIB = os.path.join(os.path.dirname(subprocess.run(["rt", "doc"], capture_output=True, text=True, check=True).stdout.strip()), "rattle")
 WORD = r"[A-Za-z_\u2115\u2124][A-Za-z0-9_'\-\u2115\u2124\u2080-\u2089]*"
 TOKEN = re.compile(r"(?<![A-Za-z0-9_'\u2115-])" + WORD)
 DECLARED = re.compile(r"^ *(?:(?:abbrev|unfoldable|pub|private|data|record|ruleset|lem)\s+)*(" + WORD + r")(?:\s+" + WORD + r")*\s*(?:[:({]|$)")
