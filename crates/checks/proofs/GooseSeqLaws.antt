@@ -65,4 +65,5 @@ module _ (schedule : RetxSchedule) (t key : List ℕ) (new : (ℕ × ℕ) × ℕ
       → r ≡ outside_tolerance schedule ((state, sequence), time) new → r ≡ retx_checked schedule t key new
   unfolding retx_checked found
   retx_known e x q m r =
-      r ∙ ap (λ x. outside_tolerance schedule x new) (λ i. ((x i, q i), m i)) ∙ ap (λ x. retransmission schedule (value_at goose_streams t x) new) (answered e s)
+      r ∙ ap (λ x. outside_tolerance schedule x new) (λ i. ((x i, q i), m i))
+      ∙ ap (λ x. retransmission schedule (value_at goose_streams t x) new) (answered e s)

@@ -23,7 +23,8 @@ use Rattle.checks.specs.Reservation.{freed_slot, freed_rank, all_freed, released
 -- ---- the use of a reservation
 
 module _ (t : List ℕ) (i address : ℕ) {bound : ℕ} (b : bound ≡ word_of t 178 i) where
-  pub bind_first : {u v : List ℕ} → bound ≡ 0 → u ≡ word_set t 178 i 1 → v ≡ word_set u 194 i address → record { table = v; hijack = false } ≡ bound_at t i address
+  pub bind_first : {u v : List ℕ} → bound ≡ 0 → u ≡ word_set t 178 i 1 → v ≡ word_set u 194 i address
+      → record { table = v; hijack = false } ≡ bound_at t i address
   unfolding bound_at
   bind_first e p q =
       (λ j. record { table = (q ∙ ap (λ (l : List ℕ). word_set l 194 i address) p) j; hijack = false })

@@ -82,7 +82,8 @@ module _ {K I : Type 0} {P : K × I → Type 0} (m : Monitor) (l l' : Remembered
     (legal : (x : K × I) (p : P x) → LegalOne (make x p)) where
   -- fewer than sixteen inspections, and one that is answered differently after them
   unfoldable pub further_of : (xs : List (K × I)) (a : All P xs) (x : K × I) (p : P x) → length xs < 16
-      → list_answer m (foldl (lists_after m) l (made make xs a)) (make x p) ≢ list_answer m (foldl (lists_after m) l' (made make xs a)) (make x p) → Further m l l'
+      → list_answer m (foldl (lists_after m) l (made make xs a)) (make x p) ≢ list_answer m (foldl (lists_after m) l' (made make xs a)) (make x p)
+      → Further m l l'
   further_of xs a x p h d = record {
     further = with_last make xs a x p;
     legal = legal_made make legal xs a x p;

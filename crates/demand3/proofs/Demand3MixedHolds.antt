@@ -84,8 +84,10 @@ legal_arrivals (sv f ∷ h) g = ((g.0, tt), legal_arrivals h g.1)
 
 -- what further inspections are answered after histories, further arrivals are after arrivals, and the other way round
 module _ (m : Monitor) (a a' : List Arrival) where
-  answers_after_lem : (b further : List Arrival) → arrival_answers (after_arrivals m b) further ≡ answers (after_history m (inspections b)) (inspections further)
-  answers_after_lem b further = arrival_answers_lem (after_arrivals m b) further ∙ ap (λ (n : Monitor). answers n (inspections further)) (after_arrivals_lem m b)
+  answers_after_lem : (b further : List Arrival) → arrival_answers (after_arrivals m b) further
+      ≡ answers (after_history m (inspections b)) (inspections further)
+  answers_after_lem b further = arrival_answers_lem (after_arrivals m b) further
+      ∙ ap (λ (n : Monitor). answers n (inspections further)) (after_arrivals_lem m b)
 
   from_inspections : SameAnswers m (inspections a) (inspections a') → SameArrivalAnswers m a a'
   from_inspections e further g = answers_after_lem a further ∙ e (inspections further) (legal_inspections further g) ∙ sym (answers_after_lem a' further)

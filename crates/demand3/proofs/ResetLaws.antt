@@ -39,7 +39,8 @@ set_calls (c ∷ calls) = set_of c ++ set_calls calls
 module _ (m : Monitor) (s : List ℕ) (e : m.settings ≡ s) where
   -- a new monitor with the settings after a call
   set_kept : (x : Setting) → fresh_with (setting_made m x).settings ≡ foldl setting_made (fresh_with s) (if_set x)
-  unfolding set_mms_service_mask set_mms_read_only set_block_test_frames set_sv_max_smp_cnt_gap set_retx_schedule set_time_max_forward_jump mms_added_on goose_added_on sv_added_on
+  unfolding set_mms_service_mask set_mms_read_only set_block_test_frames set_sv_max_smp_cnt_gap set_retx_schedule set_time_max_forward_jump
+      mms_added_on goose_added_on sv_added_on
   set_kept (service_mask mask) = ap (λ (z : List ℕ). fresh_with (with_service_mask z mask)) e
   set_kept (read_only on) = ap (λ (z : List ℕ). fresh_with (with_read_only z on)) e
   set_kept (new_mms_rule mask on rate) = ap fresh_with e
@@ -66,7 +67,8 @@ calls_kept m (c ∷ calls) =
     ∙ ap (λ (z : Monitor). foldl setting_made z (set_calls calls)) (call_kept m m.settings refl c)
     ∙ sym (foldl-append setting_made (fresh_with m.settings) (set_of c) (set_calls calls))
 
-pub reset_configured : (strict : Bool) (calls : List Call) → reset_monitor (after_calls (new_monitor strict) calls) ≡ configured_monitor strict (set_calls calls)
+pub reset_configured : (strict : Bool) (calls : List Call) → reset_monitor (after_calls (new_monitor strict) calls)
+    ≡ configured_monitor strict (set_calls calls)
 unfolding reset_monitor
 reset_configured strict calls = calls_kept (new_monitor strict) calls
 

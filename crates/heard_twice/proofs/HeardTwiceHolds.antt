@@ -33,7 +33,8 @@ use Rattle.heard_twice.proofs.SecondCopy.{Again, goose_again, sv_again}
 -- ---- decoded frames
 
 -- what an inspection answers, from the monitor with the frame counted
-goose_answer_lem : (m : Monitor) (f : GooseFrame) → answer_of (inspect_goose m f).answer ≡ answer_from true [] (goose_test (counted_goose m) (goose_read f)).answer
+goose_answer_lem : (m : Monitor) (f : GooseFrame) → answer_of (inspect_goose m f).answer
+    ≡ answer_from true [] (goose_test (counted_goose m) (goose_read f)).answer
 unfolding inspect_goose
 goose_answer_lem m f =
     reported_answer source_goose f.st_num f.timestamp_us (goose_test (counted_goose m) (goose_read f))
@@ -75,7 +76,8 @@ module _ (m : Monitor) (z : Sized m) (time time' : ℕ) where
 
 module _ (m : Monitor) (z : Sized m) (time : ℕ) where
   reread_second : {p q : ParsedSv} → Reread time p q
-      → answer_of (raw_result (parsed_inspected (parsed_inspected m p).monitor q)).answer ≡ refused_again 26 (answer_of (raw_result (parsed_inspected m p)).answer)
+      → answer_of (raw_result (parsed_inspected (parsed_inspected m p).monitor q)).answer
+      ≡ refused_again 26 (answer_of (raw_result (parsed_inspected m p)).answer)
   unfolding refused_sv clean_result
   reread_second (frame f) = sv_second m z f.timestamp_us time f
   reread_second (refused e) = refl

@@ -169,8 +169,11 @@ unfolding rows both expected mac sample in_set message select registered octets3
     head_of length_of opened within apdu_of appid_at header source_of big_endian_from field_fits overlaid with_field refused_sv fields_from apdu_frame sv_frame
     word_of word_set zero_words name_word summed key_of has_key key_stored free_slot new_slot rank_of reranked rank_set used_slot no_entries packed found
     goose_fits_at goose_publisher with_goose_publisher goose_added replays goose_checked outside_tolerance retx_checked first_rule taken_at place_for reserved
-    bound_at cb_checked add_answer sv_publisher with_sv_publisher sv_added count_outcome is_replay sv_checked has_clock earlier time_checked sv_seq_on goose_seq_on
-    time_field_on cb_on reserved_on goose_added_on sv_added_on new_totals set_block_test_frames set_sv_max_smp_cnt_gap set_retx_schedule frame_counted with_alerts
-    address_of over_rate mms_control mms_rate masked mms_rule mms_checks inspect_mms retransmitted goose_time_field goose_reservation goose_unknown goose_allowed
+    bound_at cb_checked add_answer sv_publisher with_sv_publisher sv_added count_outcome is_replay sv_checked has_clock earlier time_checked
+    sv_seq_on goose_seq_on
+    time_field_on cb_on reserved_on goose_added_on sv_added_on new_totals set_block_test_frames set_sv_max_smp_cnt_gap set_retx_schedule
+    frame_counted with_alerts
+    address_of over_rate mms_control mms_rate masked mms_rule mms_checks inspect_mms retransmitted goose_time_field goose_reservation goose_unknown
+    goose_allowed
     goose_test inspect_goose rate_findings count_findings sv_time_field sv_reservation sv_rule sv_binding inspect_sv inspect_raw_sv alerts_pushed reported
 instances = refl

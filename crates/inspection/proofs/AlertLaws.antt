@@ -159,7 +159,8 @@ module _ (source number time : ℕ) where
 
     noted_at :
         (f : Finding) (count : ℕ) (x y z w : CodedAlert) → count ≤ 2
-        → alert_noted (noted_of (with_slots count (x ∷ y ∷ z ∷ w ∷ []))) f ≡ noted_of (reported_next source number time (with_slots count (x ∷ y ∷ z ∷ w ∷ [])) f)
+        → alert_noted (noted_of (with_slots count (x ∷ y ∷ z ∷ w ∷ []))) f
+        ≡ noted_of (reported_next source number time (with_slots count (x ∷ y ∷ z ∷ w ∷ [])) f)
     unfolding alert_noted verdict_of pushed with_alert allowed_with alert_of
     noted_at f zero x y z w h =
         λ i. record {

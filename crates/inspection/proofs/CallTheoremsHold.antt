@@ -61,7 +61,8 @@ settings_replaced : (m : Monitor) (s : List ℕ) → AtMost16 m → AtMost16 (wi
 settings_replaced m s h = record { mms = h.mms; goose = h.goose; sv = h.sv }
 
 counts_set : (m : Monitor) (s : Setting) → AtMost16 m → AtMost16 (setting_made m s)
-unfolding set_mms_service_mask set_mms_read_only set_block_test_frames set_sv_max_smp_cnt_gap set_retx_schedule set_time_max_forward_jump mms_added_on goose_added_on sv_added_on
+unfolding set_mms_service_mask set_mms_read_only set_block_test_frames set_sv_max_smp_cnt_gap set_retx_schedule set_time_max_forward_jump
+    mms_added_on goose_added_on sv_added_on
 counts_set m (service_mask mask) h = settings_replaced m _ h
 counts_set m (read_only on) h = settings_replaced m _ h
 counts_set m (new_mms_rule mask on rate) h = record { mms = mms_count m.mms_rules mask on rate h.mms; goose = h.goose; sv = h.sv }

@@ -18,7 +18,8 @@ abbrev left : Monitor → List (List ℕ)
 left m = m.totals ∷ m.rate_buckets ∷ m.goose_seq ∷ m.sv_seq ∷ m.time_trackers ∷ m.cb_reservations ∷ sizes m ∷ []
 
 setting_left : (m : Monitor) (s : Setting) → left (setting_made m s) ≡ left m
-unfolding set_mms_service_mask set_mms_read_only set_block_test_frames set_sv_max_smp_cnt_gap set_retx_schedule set_time_max_forward_jump mms_added_on goose_added_on sv_added_on
+unfolding set_mms_service_mask set_mms_read_only set_block_test_frames set_sv_max_smp_cnt_gap set_retx_schedule set_time_max_forward_jump
+    mms_added_on goose_added_on sv_added_on
 setting_left m (service_mask mask) = simp length-set refl
 setting_left m (read_only on) = simp length-set refl
 setting_left m (new_mms_rule mask on rate) = rw (mms_added_long m.mms_rules mask on rate)

@@ -25,7 +25,12 @@ module _ (l t : List ℕ) (a n : ℕ) (h : a + n ≤ length l) (z : length t ≡
       let x = c - a - n in
       let e : c ≡ a + (n + x) = omega arith in
       ap (take k)
-      (rw (e, ← drop-drop (n + x) a l, ← drop-drop (n + x) a (put_mid a n l t), drop_at (take a l) (t ++ drop n (drop a l)) a (length-take-le a l (omega arith)))
+      (rw (
+        e,
+        ← drop-drop (n + x) a l,
+        ← drop-drop (n + x) a (put_mid a n l t),
+        drop_at (take a l) (t ++ drop n (drop a l)) a (length-take-le a l (omega arith)),
+      )
       (sym (drop-drop x n (t ++ drop n (drop a l)))
       ∙ ap (drop x) (drop_at t (drop n (drop a l)) n z)
       ∙ drop-drop x n (drop a l)))

@@ -26,7 +26,8 @@ module _ (l : List ℕ) {l' : List ℕ} where
   pub mms_rules_new : (length l ≡ 1148) × (l' ≡ put_mid 15 49 l (zero_words 49)) → monitor_of l' ≡ with_mms_rules (monitor_of l) (zero_words 49)
   mms_rules_new e = ap monitor_of e.1 ∙ mms_rules_back l (zero_words 49) e.0 (length_zero 49)
 
-  pub goose_publishers_new : (length l ≡ 1148) × (l' ≡ put_mid 64 177 l (zero_words 177)) → monitor_of l' ≡ with_goose_publishers (monitor_of l) (zero_words 177)
+  pub goose_publishers_new : (length l ≡ 1148) × (l' ≡ put_mid 64 177 l (zero_words 177)) → monitor_of l'
+      ≡ with_goose_publishers (monitor_of l) (zero_words 177)
   goose_publishers_new e = ap monitor_of e.1 ∙ goose_publishers_back l (zero_words 177) e.0 (length_zero 177)
 
   pub sv_publishers_new : (length l ≡ 1148) × (l' ≡ put_mid 241 193 l (zero_words 193)) → monitor_of l' ≡ with_sv_publishers (monitor_of l) (zero_words 193)

@@ -26,7 +26,8 @@ module _ {K W P : Type 0} (part : W → P) (dec : Discrete K) (k : K) where
   without_parts (e ∷ l) =
       by_cases (dec k e.0) (λ p. simp if_pos (without_parts l)) (λ p. simp if_neg (ap (λ (m : List (K × P)). (e.0, part e.1) ∷ m) (without_parts l)))
 
-module _ {K W P I J : Type 0} (part : W → P) (part_in : I → J) (dec : Discrete K) (n : ℕ) (fresh : I → W) (step : W → I → W) (fresh' : J → P) (step' : P → J → P)
+module _ {K W P I J : Type 0} (part : W → P) (part_in : I → J) (dec : Discrete K) (n : ℕ) (fresh : I → W) (step : W → I → W) (fresh' : J → P)
+    (step' : P → J → P)
     (begins : (i : I) → part (fresh i) ≡ fresh' (part_in i)) (goes : (w : W) (i : I) → part (step w i) ≡ step' (part w) (part_in i)) where
   after_parts : (o : Option W) (i : I) → after fresh' step' (part_of part o) (part_in i) ≡ part (after fresh step o i)
   after_parts none i = rw (begins i)

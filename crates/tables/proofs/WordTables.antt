@@ -375,12 +375,14 @@ module _ (start : ℕ) (t : List ℕ) (s : ℕ) (k : List ℕ) (h : s < 16) wher
   key_length = ap length stored_is ∙ length_overwritten numbers_set (λ j. get_or k (j + 2) 0) (start + 32 + s * 8) 8 ∙ numbers_length
 
   numbers_out : (x : ℕ) → x ≢ start + s → x ≢ start + 16 + s → get_or numbers_set x 0 ≡ get_or t x 0
-  numbers_out x a b = get_or-set_other (set t (start + s) (get_or k 0 0)) (start + 16 + s) x (get_or k 1 0) 0 b ∙ get_or-set_other t (start + s) x (get_or k 0 0) 0 a
+  numbers_out x a b = get_or-set_other (set t (start + s) (get_or k 0 0)) (start + 16 + s) x (get_or k 1 0) 0 b
+      ∙ get_or-set_other t (start + s) x (get_or k 0 0) 0 a
 
   name_out : (x : ℕ) → ((j : ℕ) → j < 8 → x ≢ start + 32 + s * 8 + j) → get_or (key_stored start t s k) x 0 ≡ get_or numbers_set x 0
   name_out x o = rw stored_is (overwritten_out numbers_set (start + 32 + s * 8) (λ j. get_or k (j + 2) 0) 8 x o)
 
-  pub key_out : (x : ℕ) → x ≢ start + s → x ≢ start + 16 + s → ((j : ℕ) → j < 8 → x ≢ start + 32 + s * 8 + j) → get_or (key_stored start t s k) x 0 ≡ get_or t x 0
+  pub key_out : (x : ℕ) → x ≢ start + s → x ≢ start + 16 + s → ((j : ℕ) → j < 8 → x ≢ start + 32 + s * 8 + j)
+      → get_or (key_stored start t s k) x 0 ≡ get_or t x 0
   key_out x a b o = name_out x o ∙ numbers_out x a b
 
   pub key_here : start + 160 ≤ length t → length k ≡ 10 → key_at start (key_stored start t s k) s ≡ k

@@ -48,7 +48,8 @@ pub agrees_used : {rank : ℕ → ℕ} {t : Ticks} → Agrees rank t → (s : �
 agrees_used {rank} {t} a s h w = record {
   order = (s, tt) ∷ without_slot s a.order;
   ordered = order_used a.ordered s h (λ i l. refl);
-  uses = λ i. by_cases (ℕ_discrete i s) (λ p. rw (eq-eqb i s p) (simp if_pos)) (λ p. rw (ne_eqb i s p) (rw (if_neg, lookup_without ℕ_discrete i s a.order p) (a.uses i)));
+  uses = λ i. by_cases (ℕ_discrete i s) (λ p. rw (eq-eqb i s p) (simp if_pos))
+      (λ p. rw (ne_eqb i s p) (rw (if_neg, lookup_without ℕ_discrete i s a.order p) (a.uses i)));
   begun = λ i. by_cases (ℕ_discrete i s) (λ p. rw (eq-eqb i s p) (omega arith)) (λ p. rw (ne_eqb i s p) (a.begun i));
   past = λ i. by_cases (ℕ_discrete i s) (λ p. rw (eq-eqb i s p) (omega arith)) (λ p. rw (ne_eqb i s p) (omega (arith, a.past i)));
   later = λ i j.

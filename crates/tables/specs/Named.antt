@@ -16,7 +16,8 @@ has_key start t key slot =
 unfoldable pub key_stored : ℕ → List ℕ → ℕ → List ℕ → List ℕ
 key_stored start t slot key =
     cond (nat_lt slot 16)
-    (overwritten (slice_set (slice_set t (start + slot) (slice_index key 0)) (start + 16 + slot) (slice_index key 1)) (start + 32 + slot * 8) (λ k. slice_index key (k + 2)) 8) t
+    (overwritten (slice_set (slice_set t (start + slot) (slice_index key 0)) (start + 16 + slot) (slice_index key 1)) (start + 32 + slot * 8)
+    (λ k. slice_index key (k + 2)) 8) t
 
 abbrev pub named : KeyColumns (List ℕ)
 named = record { matches = has_key 2; stored = key_stored 2; values = 162 }

@@ -14,7 +14,13 @@ loop-i-init c = reached_first
 pub loop-i-preserved : goal.loop-i-preserved
 loop-i-preserved c = let k = sym c.has_key.ensures in
     reached_next c.loop-i.invariant (omega arith) refl
-    (elim c.else-has_key.branch [ else-has_key-via-then-has_key+then-rank_at-lt16+else-t-i w ↦ and_yes (k ∙ w.if-has_key.true) (and_yes (in_use_read w.rank_at.ensures w.if-rank_at-lt16.true-raw) w.if-t-i.false-raw) | else-has_key-via-then-has_key+else-rank_at-lt16 w ↦ and_yes (k ∙ w.if-has_key.true) (and_no _ (in_use_read w.rank_at.ensures w.if-rank_at-lt16.false-raw)) | else-has_key-via-else-has_key w ↦ and_no _ (k ∙ w.if-has_key.false) ])
+    (elim c.else-has_key.branch [
+      | else-has_key-via-then-has_key+then-rank_at-lt16+else-t-i w ↦
+          and_yes (k ∙ w.if-has_key.true) (and_yes (in_use_read w.rank_at.ensures w.if-rank_at-lt16.true-raw) w.if-t-i.false-raw)
+      | else-has_key-via-then-has_key+else-rank_at-lt16 w ↦
+          and_yes (k ∙ w.if-has_key.true) (and_no _ (in_use_read w.rank_at.ensures w.if-rank_at-lt16.false-raw))
+      | else-has_key-via-else-has_key w ↦ and_no _ (k ∙ w.if-has_key.false)
+    ])
 
 pub returns-then-i-ge16 : goal.returns-then-i-ge16
 unfolding owned_slot

@@ -15,7 +15,11 @@ loop-i-preserved c = let l = c.loop-i in
     let same = c.has_key.ensures in (
       omega arith,
       l.invariant.1,
-      elim c.if-has_key.branch [ then-has_key+then-t-i w ↦ compared_fits _ _ l.invariant.2 same w.if-has_key.true (eq-eqb _ _ w.if-t-i.true) w.is_registered-is w.place-is | then-has_key+else-t-i w ↦ compared_wrong _ _ l.invariant.2 same w.if-has_key.true (ne_eqb _ _ w.if-t-i.false) w.is_registered-is w.place-is | else-has_key w ↦ compared_other _ _ l.invariant.2 same w.if-has_key.false w.is_registered-is w.place-is ],
+      elim c.if-has_key.branch [
+        | then-has_key+then-t-i w ↦ compared_fits _ _ l.invariant.2 same w.if-has_key.true (eq-eqb _ _ w.if-t-i.true) w.is_registered-is w.place-is
+        | then-has_key+else-t-i w ↦ compared_wrong _ _ l.invariant.2 same w.if-has_key.true (ne_eqb _ _ w.if-t-i.false) w.is_registered-is w.place-is
+        | else-has_key w ↦ compared_other _ _ l.invariant.2 same w.if-has_key.false w.is_registered-is w.place-is
+      ],
     )
 
 pub returns : goal.returns

@@ -5,7 +5,8 @@ use Rattle.checks.proofs.TimeFieldLaws.{alert_new, alert_earlier, alert_same, al
 use Rattle.checks.proofs.time_field.clock_alerts.Goals as goal
 
 pub returns-then-not-known : goal.returns-then-not-known
-returns-then-not-known c = let a = c.args in alert_new a.limit (a.kept_seconds, a.kept_fraction) (a.seconds, a.fraction) (not-true a.known c.if-not-known.true-raw)
+returns-then-not-known c =
+    let a = c.args in alert_new a.limit (a.kept_seconds, a.kept_fraction) (a.seconds, a.fraction) (not-true a.known c.if-not-known.true-raw)
 
 pub returns-then-now-kept_seconds : goal.returns-then-now-kept_seconds
 returns-then-now-kept_seconds c = let a = c.args in alert_earlier a.limit (a.kept_seconds, a.kept_fraction) (a.seconds, a.fraction)

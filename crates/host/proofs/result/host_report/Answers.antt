@@ -14,4 +14,6 @@ returns-then-none_found c = let a = c.args in
     (answered c.none_found.ensures c.if-none_found.true))
 
 pub returns : goal.returns
-returns c = (λ i. record { monitor = monitor_of c.report_on-found.new.m; answer = c.host_result.ensures i }) ∙ ap (result.answered host_result) c.report_on-found.ensures
+returns c =
+    (λ i. record { monitor = monitor_of c.report_on-found.new.m; answer = c.host_result.ensures i })
+    ∙ ap (result.answered host_result) c.report_on-found.ensures

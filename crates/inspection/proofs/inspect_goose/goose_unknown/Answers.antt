@@ -12,7 +12,8 @@ use Rattle.inspection.proofs.inspect_goose.goose_unknown.Goals as goal
 
 pub returns-then-goose_publisher_count_on-eq0 : goal.returns-then-goose_publisher_count_on-eq0
 returns-then-goose_publisher_count_on-eq0 c = let a = c.args in
-    unknown_to_none (monitor_of a.m.now) a.address (plain_key (name_of a.name.now a.len)) c.goose_publisher_count_on.ensures c.if-goose_publisher_count_on-eq0.true
+    unknown_to_none (monitor_of a.m.now) a.address (plain_key (name_of a.name.now a.len))
+    c.goose_publisher_count_on.ensures c.if-goose_publisher_count_on-eq0.true
 
 pub returns-in-At : goal.returns-in-At
 returns-in-At c = let a = c.args in

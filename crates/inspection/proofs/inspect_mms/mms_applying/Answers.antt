@@ -21,11 +21,17 @@ returns-else-rule_read_only_on c = let e = c.rule_read_only_on.ensures in
     rw c.in-At.is
     (ap Rate c.rule_rate_on.ensures
     ∙ sym (cond_no _ _
-    (elim c.else-rule_read_only_on.branch [ else-rule_read_only_on-via-then-rule_read_only_on+else-write w ↦ and_yes (answered e w.if-rule_read_only_on.true) w.if-write.false | else-rule_read_only_on-via-else-rule_read_only_on w ↦ and_no _ (answered e w.if-rule_read_only_on.false) ])))
+    (elim c.else-rule_read_only_on.branch [
+      | else-rule_read_only_on-via-then-rule_read_only_on+else-write w ↦ and_yes (answered e w.if-rule_read_only_on.true) w.if-write.false
+      | else-rule_read_only_on-via-else-rule_read_only_on w ↦ and_no _ (answered e w.if-rule_read_only_on.false)
+    ])))
 
 pub returns-else-flag_on : goal.returns-else-flag_on
 returns-else-flag_on c = let e = c.flag_on.ensures in
     let t = ap (ltb 0) c.mms_rule_count_on-count.ensures in
     rw c.in-Nothing.is
     (sym (cond_no _ _
-    (elim c.else-flag_on.branch [ else-flag_on-via-then-flag_on+else-count-gt0 w ↦ and_yes (answered e w.if-flag_on.true) (answered t w.if-count-gt0.false-raw) | else-flag_on-via-else-flag_on w ↦ and_no _ (answered e w.if-flag_on.false) ])))
+    (elim c.else-flag_on.branch [
+      | else-flag_on-via-then-flag_on+else-count-gt0 w ↦ and_yes (answered e w.if-flag_on.true) (answered t w.if-count-gt0.false-raw)
+      | else-flag_on-via-else-flag_on w ↦ and_no _ (answered e w.if-flag_on.false)
+    ])))

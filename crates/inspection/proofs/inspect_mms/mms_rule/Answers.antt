@@ -30,4 +30,7 @@ returns c = let a = c.args in
     ∙ ap (λ (x : Found). mms_applying (strict_mode m) m.mms_rules a.write x) c.first_rule_on-found.ensures
     ∙ sym
     (cond_no _ _ (answered (c.masked.ensures ∙ ap (λ (x : ℕ). masked x a.raw) c.setting_on.ensures) c.if-masked.false)
-    ∙ cond_no _ _ (elim c.else-flag_on.branch [ else-flag_on-via-then-flag_on+else-write w ↦ and_yes (answered q w.if-flag_on.true) w.if-write.false | else-flag_on-via-else-flag_on w ↦ and_no _ (answered q w.if-flag_on.false) ]))
+    ∙ cond_no _ _ (elim c.else-flag_on.branch [
+      | else-flag_on-via-then-flag_on+else-write w ↦ and_yes (answered q w.if-flag_on.true) w.if-write.false
+      | else-flag_on-via-else-flag_on w ↦ and_no _ (answered q w.if-flag_on.false)
+    ]))

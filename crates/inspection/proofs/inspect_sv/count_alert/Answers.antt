@@ -23,7 +23,10 @@ pub returns-else-limit-gt0 : goal.returns-else-limit-gt0
 unfolding count_findings
 returns-else-limit-gt0 c = rw c.in-ForwardGap.is
     (sym (cond_no _ _
-    (elim c.else-limit-gt0.branch [ else-limit-gt0-via-then-limit-gt0+else-gap-limit w ↦ and_yes (lt-ltb _ _ w.if-limit-gt0.true) w.if-gap-limit.false-raw | else-limit-gt0-via-else-limit-gt0 w ↦ and_no _ (le-ltb _ _ w.if-limit-gt0.false) ])))
+    (elim c.else-limit-gt0.branch [
+      | else-limit-gt0-via-then-limit-gt0+else-gap-limit w ↦ and_yes (lt-ltb _ _ w.if-limit-gt0.true) w.if-gap-limit.false-raw
+      | else-limit-gt0-via-else-limit-gt0 w ↦ and_no _ (le-ltb _ _ w.if-limit-gt0.false)
+    ])))
 
 pub returns-in-CycleWrap : goal.returns-in-CycleWrap
 unfolding count_findings

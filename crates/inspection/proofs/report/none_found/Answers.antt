@@ -8,7 +8,8 @@ returns-then-is_nothing-2 c = sym (and_yes (answered c.is_nothing.ensures c.if-i
     (and_yes (answered c.is_nothing-then-is_nothing.ensures c.if-is_nothing-2.true) (sym c.is_nothing-then-is_nothing-2.ensures)))
 
 pub returns-else-is_nothing-2 : goal.returns-else-is_nothing-2
-returns-else-is_nothing-2 c = sym (and_yes (answered c.is_nothing.ensures c.if-is_nothing.true) (and_no _ (answered c.is_nothing-then-is_nothing.ensures c.if-is_nothing-2.false)))
+returns-else-is_nothing-2 c =
+    sym (and_yes (answered c.is_nothing.ensures c.if-is_nothing.true) (and_no _ (answered c.is_nothing-then-is_nothing.ensures c.if-is_nothing-2.false)))
 
 pub returns-else-is_nothing : goal.returns-else-is_nothing
 returns-else-is_nothing c = sym (and_no _ (answered c.is_nothing.ensures c.if-is_nothing.false))

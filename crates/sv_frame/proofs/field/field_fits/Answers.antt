@@ -24,4 +24,9 @@ returns-in-134 c = c.is_unsigned.ensures ∙ rw c.in-134.is
 pub returns-in_default : goal.returns-in_default
 unfolding field_fits
 returns-in_default c =
-    rw (ne_eqb c.args.tag svid_tag (λ e. omega arith), ne_eqb c.args.tag dat_set_tag (λ e. omega arith), ne_eqb c.args.tag smp_cnt_tag (λ e. omega arith), ne_eqb c.args.tag smp_rate_tag (λ e. omega arith))
+    rw (
+      ne_eqb c.args.tag svid_tag (λ e. omega arith),
+      ne_eqb c.args.tag dat_set_tag (λ e. omega arith),
+      ne_eqb c.args.tag smp_cnt_tag (λ e. omega arith),
+      ne_eqb c.args.tag smp_rate_tag (λ e. omega arith),
+    )

@@ -10,7 +10,10 @@ use Rattle.tables.proofs.named.find_key.Goals.{else-has_key-via-then-has_key+els
 pub loop-i-preserved : goal.loop-i-preserved
 loop-i-preserved c = let k = sym c.has_key.ensures in
     reached_next c.loop-i.invariant (omega arith) refl
-    (elim c.else-has_key.branch [ else-has_key-via-then-has_key+else-rank_at-lt16 w ↦ and_yes (k ∙ w.if-has_key.true) (in_use_read w.rank_at.ensures w.if-rank_at-lt16.false-raw) | else-has_key-via-else-has_key w ↦ and_no _ (k ∙ w.if-has_key.false) ])
+    (elim c.else-has_key.branch [
+      | else-has_key-via-then-has_key+else-rank_at-lt16 w ↦ and_yes (k ∙ w.if-has_key.true) (in_use_read w.rank_at.ensures w.if-rank_at-lt16.false-raw)
+      | else-has_key-via-else-has_key w ↦ and_no _ (k ∙ w.if-has_key.false)
+    ])
 
 pub returns-then-i-ge16 : goal.returns-then-i-ge16
 unfolding found

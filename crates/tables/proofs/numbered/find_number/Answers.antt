@@ -12,7 +12,10 @@ loop-i-init c = reached_first
 
 pub loop-i-preserved : goal.loop-i-preserved
 loop-i-preserved c = reached_next c.loop-i.invariant (omega arith) refl
-    (elim c.else-t-i.branch [ else-t-i-via-then-t-i+else-rank_at-lt16 w ↦ and_yes (eq-eqb _ _ w.if-t-i.true) (in_use_read w.rank_at.ensures w.if-rank_at-lt16.false-raw) | else-t-i-via-else-t-i w ↦ and_no _ (ne_eqb _ _ w.if-t-i.false) ])
+    (elim c.else-t-i.branch [
+      | else-t-i-via-then-t-i+else-rank_at-lt16 w ↦ and_yes (eq-eqb _ _ w.if-t-i.true) (in_use_read w.rank_at.ensures w.if-rank_at-lt16.false-raw)
+      | else-t-i-via-else-t-i w ↦ and_no _ (ne_eqb _ _ w.if-t-i.false)
+    ])
 
 pub returns-then-i-ge16 : goal.returns-then-i-ge16
 unfolding found
