@@ -11,7 +11,8 @@ use Rattle.records.specs.declared.result.Pushed.{Pushed}
 use Rattle.records.specs.Alert.{denies, code_number, alert_of}
 use Rattle.records.specs.Result.{clean_result, allowed_with, with_alert, pushed}
 use Rattle.monitor.specs.Totals.{alert_counters}
-use Rattle.inspection.specs.Report.{Finding, Checked, reported_next, alerts_pushed, reported}
+use Rattle.inspection.specs.declared.report.Finding.{Finding}
+use Rattle.inspection.specs.Report.{Checked, reported_next, alerts_pushed, reported}
 use Rattle.inspection.proofs.ReportLaws.{slots_more}
 use Rattle.demand3.specs.Demand3.{Answer, answer_of}
 

@@ -27,7 +27,8 @@ use Rattle.inspection.specs.Address.{address_of}
 use Rattle.inspection.specs.Calls.{Setting, configured_monitor}
 use Rattle.inspection.specs.InspectGoose.{control_block, goose_numbers, goose_pair, blocked}
 use Rattle.inspection.specs.InspectSv.{sv_pair, count_findings}
-use Rattle.inspection.specs.Report.{Finding, clock_findings}
+use Rattle.inspection.specs.declared.report.Finding.{Finding}
+use Rattle.inspection.specs.Report.{clock_findings}
 use Rattle.inspection.proofs.AddressLaws.{address_octets, address_octets_lem, address_back, address_fits}
 use Rattle.demand3.specs.Demand3.{Inspection, goose, sv, Legal, after_history, answers, Answer, reaching, RememberedLists, remembered_lists}
 use Rattle.demand3.specs.Demand3.{JumpLimit, Premises, Distinguished, SameAnswers, EqualLists, DemandFrom, Demand3, Demand3AfterReset}

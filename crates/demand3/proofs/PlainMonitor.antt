@@ -31,12 +31,13 @@ use Rattle.monitor.specs.Parts.{After, after, sv_seq_on, goose_seq_on, time_fiel
 use Rattle.monitor.specs.Settings.{retx_enforce, time_max_forward_jump, sv_max_smp_cnt_gap}
 use Rattle.monitor.specs.Totals.{frame_counted, with_alerts, counted_goose, counted_sv}
 use Rattle.inspection.specs.declared.inspect_goose.GooseNumbers.{GooseNumbers}
-use Rattle.inspection.specs.declared.report.RuleCheck.TheVariants.{Rate}
+use Rattle.std.proofs.Common.{Ok}
 use Rattle.inspection.specs.Address.{address_of}
 use Rattle.inspection.specs.InspectGoose.{goose_read, goose_pair, stream_key, timed_numbers, stream_findings, retransmitted, goose_time_field}
 use Rattle.inspection.specs.InspectGoose.{goose_reservation, goose_unknown, goose_allowed, blocked, goose_test, inspect_goose}
 use Rattle.inspection.specs.InspectSv.{sv_read, svid_of, sv_pair, rate_findings, count_findings, sv_time_field, sv_reservation, sv_rule, sv_binding, inspect_sv}
-use Rattle.inspection.specs.Report.{Finding, Checked, refusal, clock_findings, ended, reported}
+use Rattle.inspection.specs.declared.report.Finding.{Finding}
+use Rattle.inspection.specs.Report.{Checked, refusal, clock_findings, ended, reported}
 use Rattle.inspection.proofs.CheckLaws.{goose_kept, sv_kept}
 use Rattle.demand3.specs.Demand3.{Inspection, goose, sv, inspect, after_history, answers, Answer, answer_of, Premises}
 use Rattle.demand3.proofs.AnswerLaws.{answer_from, reported_answer}
@@ -117,7 +118,7 @@ module _ {m n : Monitor} (q : Plain m n) where
   no_hijack key address =
       ap (λ (c : CbChecked). after (with_cb_reservations n) (λ c. c.table) (λ c. c.hijack) c) (not_bound n.cb_reservations key address q.free)
 
-  no_publisher : (address : ℕ) (svid : List ℕ) → sv_rule n address svid ≡ Rate 0
+  no_publisher : (address : ℕ) (svid : List ℕ) → sv_rule n address svid ≡ Ok 0
   unfolding sv_rule
   no_publisher address svid = let e = q.premises.no_sv_publisher in rw (not_registered n.sv_publishers address svid e, e, and-false)
 

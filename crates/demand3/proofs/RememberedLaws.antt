@@ -30,7 +30,8 @@ use Rattle.monitor.specs.Settings.{time_max_forward_jump, sv_max_smp_cnt_gap}
 use Rattle.inspection.specs.Address.{address_of}
 use Rattle.inspection.specs.InspectGoose.{goose_numbers, goose_pair, stream_findings, blocked}
 use Rattle.inspection.specs.InspectSv.{svid_of, sv_pair, count_findings}
-use Rattle.inspection.specs.Report.{Finding, refusal, clock_findings}
+use Rattle.inspection.specs.declared.report.Finding.{Finding}
+use Rattle.inspection.specs.Report.{refusal, clock_findings}
 use Rattle.demand3.specs.Demand3.{Inspection, goose, sv, Legal, Answer, reaching, RememberedLists}
 use Rattle.demand3.proofs.AnswerLaws.{answer_from}
 use Rattle.demand3.proofs.LegalLaws.{LegalOne, legal_parts}

@@ -19,12 +19,13 @@ use Rattle.monitor.specs.Settings.{strict_mode, time_max_forward_jump, sv_max_sm
 use Rattle.inspection.specs.declared.inspect_goose.GooseNumbers.{GooseNumbers}
 use Rattle.inspection.specs.declared.report.CheckAlert.TheVariants.{TestBlocked, UnknownPublisher, ClockAlert, GooseReplay, Retransmission}
 use Rattle.inspection.specs.declared.report.CheckAlert.TheVariants.{WrongIed, UnknownSvid, CountReplay, CountGap, SuspiciousCount, RateMismatch}
-use Rattle.inspection.specs.declared.report.RuleCheck.{RuleCheck}
-use Rattle.inspection.specs.declared.report.RuleCheck.TheVariants.{Refused, Rate}
+use Rattle.inspection.specs.declared.report.CheckAlert.{CheckAlert}
+use Rattle.std.proofs.Common.{Result, Ok, Err}
 use Rattle.inspection.specs.InspectGoose.{GooseRead, stream_key, timed_numbers, stream_findings, retransmitted, goose_time_field, goose_reservation, goose_unknown}
 use Rattle.inspection.specs.InspectGoose.{goose_allowed, blocked, goose_test}
 use Rattle.inspection.specs.InspectSv.{SvRead, rate_findings, count_findings, sv_time_field, sv_reservation, sv_matched, sv_rule, sv_binding}
-use Rattle.inspection.specs.Report.{Finding, Checked, finding_of, findings_of, clock_findings, ended, permitted}
+use Rattle.inspection.specs.declared.report.Finding.{Finding}
+use Rattle.inspection.specs.Report.{Checked, finding_of, findings_of, clock_findings, ended, permitted}
 use Rattle.inspection.proofs.CheckLaws.{fixed, goose_kept, sv_kept}
 use Rattle.demand3.proofs.AnswerLaws.{answer_from}
 use Rattle.heard_twice.specs.HeardTwice.{before_stream, refused_before, refused_again}
@@ -158,10 +159,10 @@ module _ (m : Monitor) (totals : List ℕ) (cb : length m.cb_reservations ≡ 21
 -- ---- SV
 
 -- what the publishers say of an svID
-data Ruled : RuleCheck → Type 0 where
-  wrong_address : Ruled (Refused WrongIed)
-  unknown : Ruled (Refused UnknownSvid)
-  rated : (rate : ℕ) → Ruled (Rate rate)
+data Ruled : Result ℕ CheckAlert → Type 0 where
+  wrong_address : Ruled (Err WrongIed)
+  unknown : Ruled (Err UnknownSvid)
+  rated : (rate : ℕ) → Ruled (Ok rate)
 
 ruled : (m : Monitor) (address : ℕ) (svid : List ℕ) → Ruled (sv_rule m address svid)
 unfolding sv_rule
@@ -173,10 +174,10 @@ ruled m address svid = go (sv_publisher m.sv_publishers address svid)
     go (Fits i) = rated _
 
 -- the checks by that
-abbrev sv_by : RuleCheck → Monitor → SvRead → Checked
+abbrev sv_by : Result ℕ CheckAlert → Monitor → SvRead → Checked
 sv_by rule m f = permitted m (λ rate. sv_reservation f rate m) rule
 
-sv_by_lem : (m : Monitor) (f : SvRead) {rule : RuleCheck} → sv_rule m f.numbers.address f.svid ≡ rule → sv_binding m f ≡ sv_by rule m f
+sv_by_lem : (m : Monitor) (f : SvRead) {rule : Result ℕ CheckAlert} → sv_rule m f.numbers.address f.svid ≡ rule → sv_binding m f ≡ sv_by rule m f
 unfolding sv_binding
 sv_by_lem m f p = λ i. sv_by (p i) m f
 
@@ -218,7 +219,7 @@ module _ (m : Monitor) (totals : List ℕ) (cb : length m.cb_reservations ≡ 21
     unfolding denies
     sv_again = rw (sv_by_lem sv_left f rule_kept, sv_by_lem m f refl) (go (ruled m f.numbers.address f.svid))
       where
-        go : {rule : RuleCheck} → Ruled rule → Again 26 (sv_by rule m f).answer (sv_by rule (with_totals (sv_by rule m f).monitor totals) f).answer
+        go : {rule : Result ℕ CheckAlert} → Ruled rule → Again 26 (sv_by rule m f).answer (sv_by rule (with_totals (sv_by rule m f).monitor totals) f).answer
         go wrong_address = refl
         go unknown = refl
         go (rated rate) = sv_reserved rate

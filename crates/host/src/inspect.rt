@@ -16,6 +16,7 @@ use entries::iec61850_monitor::Iec61850Monitor;
 use inspection::inspect_goose::inspect_goose_on;
 use inspection::inspect_mms::inspect_mms_on;
 use inspection::inspect_sv::{check_sv_on, inspect_raw_sv_on};
+use inspection::report::AlertSource;
 use records::alert::SOURCE_IEC61850_SV;
 use records::frame::SvFrame;
 use sv_frame::sv::parse_sv;
@@ -64,9 +65,11 @@ pub extern "C" fn mokyndu_inspect_sv(mut monitor: Iec61850Monitor, frame: SvFram
     let result = host_report(
         &mut monitor.words,
         alerts,
-        SOURCE_IEC61850_SV,
-        frame.smp_cnt as u32,
-        frame.timestamp_us,
+        AlertSource {
+            source_type: SOURCE_IEC61850_SV,
+            source_id: frame.smp_cnt as u32,
+            timestamp_us: frame.timestamp_us,
+        },
     );
     HostInspected {
         monitor: monitor,

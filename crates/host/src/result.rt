@@ -8,7 +8,7 @@ ghost use Rattle.host.specs.Result.{host_alert, host_result, answered};
 
 use crate::flag::{added_error, flag_number};
 use entries::iec61850_monitor::{Configured, Iec61850Monitor};
-use inspection::report::{CheckAlerts, none_found, report_on};
+use inspection::report::{AlertSource, CheckAlerts, none_found, report_on};
 use monitor::parts::WORDS;
 use records::alert::CodedAlert;
 use records::frame::SvFrame;
@@ -154,17 +154,16 @@ fn clean_result(source_type: u8) -> HostResult
 pub fn host_report(
     m: &mut [u64; WORDS],
     alerts: CheckAlerts,
-    source_type: u8,
-    source_id: u32,
-    ts_us: u64,
+    source: AlertSource,
 ) -> HostResult
     ensures { record { monitor = monitor_of m.new; answer = result }
-        ≡ answered host_result (reported source_type source_id ts_us (ended (monitor_of m.old) (alerts_of alerts))) }
+        ≡ answered host_result
+        (reported source.source_type source.source_id source.timestamp_us (ended (monitor_of m.old) (alerts_of alerts))) }
 {
     if none_found(alerts) {
-        return clean_result(source_type);
+        return clean_result(source.source_type);
     }
-    let found = report_on(m, alerts, source_type, source_id, ts_us);
+    let found = report_on(m, alerts, source);
     host_result(found)
 }
 

@@ -1,12 +1,13 @@
 -- Laws of the alerts of an inspection: the result and the verdict that report them.
 use Prim.Native.Nat.{ℕ, zero, suc, ◌+◌, ◌*◌, ◌≤◌, ◌<◌}
 use mathlib.Core.Bool.{Bool, true, false, ◌&&◌, ◌||◌, cond, not}
-use mathlib.Core.List.{List, [], ◌∷◌, ◌++◌, foldl, foldl-append}
+use mathlib.Core.List.{List, [], ◌∷◌, ◌++◌, foldl, foldl-append, append_assoc, append-nil}
 use mathlib.Core.Path.{◌≡◌, refl, sym, ap, ◌∙◌}
 use native.Mathlib.Omega.{arith}
 use borrow.Author.Tests.{lt-ltb, le-ltb}
 use lib.ListN.{length, get_or, set, length-append, length-set}
-use Rattle.records.specs.declared.alert.AlertCode.{AlertCode}
+use Rattle.std.proofs.Common.{Option, Some, None, true≢false, take}
+use Rattle.std.proofs.lemmas.List.{take_more}
 use Rattle.records.specs.declared.alert.AlertSeverity.{AlertSeverity}
 use Rattle.records.specs.declared.alert.CodedAlert.{CodedAlert}
 use Rattle.records.specs.declared.result.AlertCounters.{AlertCounters}
@@ -21,62 +22,37 @@ use Rattle.monitor.specs.Monitor.{Monitor}
 use Rattle.monitor.specs.Totals.{alert_counters, with_alerts}
 use Rattle.monitor.proofs.TotalLaws.{alerts_kept}
 use Rattle.inspection.specs.declared.report.CheckAlert.{CheckAlert}
-use Rattle.inspection.specs.declared.report.CheckAlerts.{CheckAlerts}
 use Rattle.inspection.specs.declared.report.Noted.{Noted}
-use Rattle.inspection.specs.Report.{Finding, finding_of, with_allowed, reported_next, alerts_pushed, pushed_on, ended, reported}
-use Rattle.inspection.specs.Report.{findings_of, alerts_of, is_nothing, none_found, clean_verdict, noted_of, allowed_octet, alert_noted, with_verdict}
+use Rattle.inspection.specs.declared.report.Finding.{Finding}
+use Rattle.inspection.specs.Report.{finding_of, with_allowed, reported_next, alerts_pushed, pushed_on, ended, reported}
+use Rattle.inspection.specs.Report.{findings_in, alerts_of, none_found, clean_verdict, noted_of, allowed_octet, alert_noted, with_verdict}
 
--- ---- results
--- a check that found nothing has no alerts
-nothing_found : (a : CheckAlert) → is_nothing a ≡ true → findings_of a ≡ []
-nothing_found a e = cond_yes _ _ e
+-- ---- the checks' answers
+pub none_found_lem : (l : List (Option CheckAlert)) → none_found l ≡ true → alerts_of l ≡ []
+none_found_lem [] e = refl
+none_found_lem (None ∷ rest) e = none_found_lem rest e
+none_found_lem (Some a ∷ rest) e = absurd (true≢false (sym e))
 
-one_found : (a : CheckAlert) → is_nothing a ≡ false → findings_of a ≡ finding_of a ∷ []
-one_found a e = cond_no _ _ e
+-- a check's answer has one alert at most
+at_most_all : (l : List (Option CheckAlert)) → length (alerts_of l) ≤ length l
+at_most_all [] = omega arith
+at_most_all (None ∷ rest) = let x = at_most_all rest in omega (arith, x)
+at_most_all (Some a ∷ rest) = let x = at_most_all rest in omega (arith, x)
 
-pub none_found_lem : (a : CheckAlerts) → none_found a ≡ true → alerts_of a ≡ []
-none_found_lem a e =
-    let x = and_both (is_nothing a.first) _ e in
-    let y = and_both (is_nothing a.second) _ x.1 in
-    λ i. nothing_found a.first x.0 i ++ (nothing_found a.second y.0 i ++ nothing_found a.third y.1 i)
+-- the alerts of one more answer
+alerts_more : (l : List (Option CheckAlert)) (a : Option CheckAlert) → alerts_of (l ++ a ∷ []) ≡ alerts_of l ++ findings_in a
+alerts_more [] a = append-nil (findings_in a)
+alerts_more (x ∷ l) a = ap (λ (r : List Finding). findings_in x ++ r) (alerts_more l a) ∙ sym (append_assoc (findings_in x) (alerts_of l) (findings_in a))
 
-module _ (source source_number time : ℕ) where
-  -- a result and the counters, with the alerts of one check's answer
-  abbrev alerts_added : Pushed → CheckAlert → Pushed
-  alerts_added p a = foldl (reported_next source source_number time) p (findings_of a)
-
-  -- none, or one, which the code adds after it has refused the result
-  pub none_added : (p : Pushed) (a : CheckAlert) → is_nothing a ≡ true → p ≡ alerts_added p a
-  none_added p a h = ap (foldl (reported_next source source_number time) p) (sym (nothing_found a h))
-
-  pub alert_added :
-      (p : Pushed) (a : CheckAlert) {allowed : Bool} {severity : AlertSeverity} {code : AlertCode} {r : Pushed}
-      → is_nothing a ≡ false
-      → allowed ≡ (p.result.allowed && not (finding_of a).refuses)
-      → severity ≡ (finding_of a).severity
-      → code ≡ (finding_of a).code
-      → r ≡ pushed (with_allowed p.result allowed) p.counters severity source source_number time code
-      → r ≡ alerts_added p a
-  alert_added p a h x s c e =
-      e ∙ (λ i. pushed (with_allowed p.result (x i)) p.counters (s i) source source_number time (c i))
-      ∙ ap (foldl (reported_next source source_number time) p) (sym (one_found a h))
-
-  -- the alerts of the three answers, added to a clean result
-  pub three_pushed :
-      (counters : AlertCounters) (a : CheckAlerts) {clean : InspectResult} {one two three : Pushed}
-      → clean ≡ clean_result source
-      → one ≡ alerts_added (record { result = clean; counters = counters }) a.first
-      → two ≡ alerts_added one a.second
-      → three ≡ alerts_added two a.third
-      → three ≡ alerts_pushed source source_number time counters (alerts_of a)
-  unfolding alerts_pushed
-  three_pushed counters a e x y z =
-      let start : InspectResult → Pushed = λ r. record { result = r; counters = counters } in
-      let first = x ∙ ap (λ (r : InspectResult). alerts_added (start r) a.first) e in
-      let second = y ∙ ap (λ (p : Pushed). alerts_added p a.second) first in
-      let third = z ∙ ap (λ (p : Pushed). alerts_added p a.third) second in
-      let one_by_one = foldl-append _ _ (findings_of a.first) _ ∙ foldl-append _ _ (findings_of a.second) (findings_of a.third) in
-      third ∙ sym one_by_one
+-- one more answer: its alerts are added or noted behind those of the answers before it
+pub one_answer_more :
+    {S : Type 0} (step : S → Finding → S) (start : S) (l : List (Option CheckAlert)) (i : ℕ) {now : S}
+    → i < length l → now ≡ foldl step start (alerts_of (take i l))
+    → foldl step now (findings_in (get_or l i None)) ≡ foldl step start (alerts_of (take (i + 1) l))
+one_answer_more step start l i h e =
+    ap (λ n. foldl step n (findings_in (get_or l i None))) e
+    ∙ sym (foldl-append step start (alerts_of (take i l)) (findings_in (get_or l i None)))
+    ∙ ap (foldl step start) (sym (ap alerts_of (take_more l i None h) ∙ alerts_more (take i l) (get_or l i None)))
 
 -- ---- verdicts
 
@@ -136,17 +112,6 @@ of_four P h (x ∷ y ∷ []) e = absurd (omega (arith, e))
 of_four P h (x ∷ y ∷ z ∷ []) e = absurd (omega (arith, e))
 of_four P h (x ∷ y ∷ z ∷ w ∷ []) e = h x y z w
 of_four P h (x ∷ y ∷ z ∷ w ∷ v ∷ l) e = absurd (omega (arith, e))
-
--- a check's answer has one alert at most, three have three
-one_at_most : (a : CheckAlert) → length (findings_of a) ≤ 1
-one_at_most a = cond_holds (λ (l : List Finding). length l ≤ 1) (is_nothing a) (omega arith) (omega arith)
-
-at_most_three : (a : CheckAlerts) → length (alerts_of a) ≤ 3
-at_most_three a =
-    let x = one_at_most a.first in
-    let y = one_at_most a.second in
-    let z = one_at_most a.third in
-    simp length-append (omega (arith, x, y, z))
 
 module _ (source number time : ℕ) where
   -- an alert noted in each of the three places
@@ -225,36 +190,17 @@ module _ (source number time : ℕ) where
 
   -- the verdict with the alerts of three answers is that of the result with them
   noted_pushed :
-      (counters : AlertCounters) (a : CheckAlerts)
+      (counters : AlertCounters) (a : List (Option CheckAlert)) → length a ≡ 3
       → foldl alert_noted (record { verdict = clean_verdict; counters = counters }) (alerts_of a)
       ≡ noted_of (alerts_pushed source number time counters (alerts_of a))
   unfolding alerts_pushed clean_result
-  noted_pushed counters a =
+  noted_pushed counters a h =
       ap (λ (n : Noted). foldl alert_noted n (alerts_of a)) (clean_noted source counters)
-      ∙ noted_all (record { result = clean_result source; counters = counters }) (alerts_of a) (omega (arith, at_most_three a)) refl
-
--- the alert of one answer noted
-pub none_noted_yet : (n : Noted) (a : CheckAlert) → is_nothing a ≡ true → n ≡ foldl alert_noted n (findings_of a)
-none_noted_yet n a h = ap (foldl alert_noted n) (sym (nothing_found a h))
-
-pub one_noted : (n : Noted) (a : CheckAlert) {r : Noted} → is_nothing a ≡ false → r ≡ alert_noted n (finding_of a) → r ≡ foldl alert_noted n (findings_of a)
-one_noted n a h e = e ∙ ap (foldl alert_noted n) (sym (one_found a h))
-
--- the alerts of three answers noted one by one
-pub three_noted :
-    (start : Noted) (a : CheckAlerts) {one two three : Noted}
-    → one ≡ foldl alert_noted start (findings_of a.first)
-    → two ≡ foldl alert_noted one (findings_of a.second)
-    → three ≡ foldl alert_noted two (findings_of a.third)
-    → three ≡ foldl alert_noted start (alerts_of a)
-three_noted start a x y z =
-    let second = y ∙ ap (λ (n : Noted). foldl alert_noted n (findings_of a.second)) x in
-    let third = z ∙ ap (λ (n : Noted). foldl alert_noted n (findings_of a.third)) second in
-    third ∙ sym (foldl-append _ _ (findings_of a.first) _ ∙ foldl-append _ _ (findings_of a.second) (findings_of a.third))
+      ∙ noted_all (record { result = clean_result source; counters = counters }) (alerts_of a) (let few = at_most_all a in omega (arith, few, h)) refl
 
 -- ---- in a monitor
 
-module _ (source number time : ℕ) (m : Monitor) (a : CheckAlerts) where
+module _ (source number time : ℕ) (m : Monitor) (a : List (Option CheckAlert)) where
   -- without an alert the monitor is left and the result clean
   pub none_reported :
       {clean : InspectResult} → clean ≡ clean_result source → none_found a ≡ true
@@ -279,11 +225,11 @@ module _ (source number time : ℕ) (m : Monitor) (a : CheckAlerts) where
       (λ i. record { monitor = m; answer = (clean_noted source (alert_counters m) i).verdict }) ∙ ap with_verdict (none_reported refl h)
 
   pub alerts_noted :
-      {counters : AlertCounters} {n : Noted} {after : Monitor} → counters ≡ alert_counters m
+      {counters : AlertCounters} {n : Noted} {after : Monitor} → length a ≡ 3 → counters ≡ alert_counters m
       → n ≡ foldl alert_noted (record { verdict = clean_verdict; counters = counters }) (alerts_of a) → after ≡ with_alerts m n.counters
       → record { monitor = after; answer = n.verdict } ≡ with_verdict (reported source number time (ended m (alerts_of a)))
   unfolding reported
-  alerts_noted {counters} {n} c e w =
+  alerts_noted {counters} {n} three c e w =
       (λ i. record { monitor = w i; answer = n.verdict })
       ∙ ap (λ (x : Noted). record { monitor = with_alerts m x.counters; answer = x.verdict })
-      (e ∙ noted_pushed source number time counters a ∙ ap (λ (x : AlertCounters). noted_of (alerts_pushed source number time x (alerts_of a))) c)
+      (e ∙ noted_pushed source number time counters a three ∙ ap (λ (x : AlertCounters). noted_of (alerts_pushed source number time x (alerts_of a))) c)

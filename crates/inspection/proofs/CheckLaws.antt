@@ -6,6 +6,7 @@ use mathlib.Core.Path.{◌≡◌, refl, ◌∙◌}
 use native.Mathlib.Omega.{arith}
 use lib.Dec.{eqb, ltb}
 use lib.ListN.{length, length-append}
+use Rattle.std.proofs.Common.{Result, Ok, Err}
 use Rattle.records.proofs.Booleans.{cond_holds}
 use Rattle.checks.specs.declared.sv_seq.SvSeqOutcome.{SvSeqOutcome}
 use Rattle.checks.specs.declared.sv_seq.SvSeqOutcome.TheVariants.{FirstSeen, Replay, ForwardGap, CycleWrap, SuspiciousSmpGap}
@@ -16,13 +17,12 @@ use Rattle.inspection.specs.declared.inspect_goose.GooseNumbers.{GooseNumbers}
 use Rattle.inspection.specs.declared.inspect_sv.SvNumbers.{SvNumbers}
 use Rattle.inspection.specs.declared.report.CheckAlert.{CheckAlert}
 use Rattle.inspection.specs.declared.report.CheckAlert.TheVariants.{OverRate, BoundElsewhere, TestBlocked, UnknownPublisher}
-use Rattle.inspection.specs.declared.report.RuleCheck.{RuleCheck}
-use Rattle.inspection.specs.declared.report.RuleCheck.TheVariants.{Refused, Rate}
 use Rattle.inspection.specs.InspectMms.{MmsRead, control_key, mms_reserved, releases, mms_control, over_rate, unless_over, mms_rate, mms_rule, mms_checks}
 use Rattle.inspection.specs.InspectGoose.{GooseRead, stream_key, timed_numbers, stream_findings, retransmitted, goose_clock, goose_time_field}
 use Rattle.inspection.specs.InspectGoose.{goose_reservation, goose_unknown, goose_allowed, blocked, goose_test}
 use Rattle.inspection.specs.InspectSv.{SvRead, rate_findings, count_findings, sv_clock, sv_time_field, sv_reservation, sv_rule, sv_binding}
-use Rattle.inspection.specs.Report.{Finding, Checked, is_nothing, findings_of, clock_findings, ended, permitted, unless_hijacked}
+use Rattle.inspection.specs.declared.report.Finding.{Finding}
+use Rattle.inspection.specs.Report.{Checked, findings_of, clock_findings, ended, permitted, unless_hijacked}
 use Rattle.inspection.proofs.SizeLaws.{sizes, sv_long, goose_long, time_long, rate_long, cb_long, reserved_long, released_long}
 
 -- ---- how many alerts
@@ -108,15 +108,15 @@ ends : (m : Monitor) (findings : List Finding) → AtMost 3 findings → Keeps m
 ends m findings h = record { kept = refl; few = h }
 
 ends_refused : (m : Monitor) (a : CheckAlert) → Keeps m (ended m (findings_of a))
-ends_refused m a = ends m (findings_of a) (cond_holds (AtMost 3) (is_nothing a) (omega arith) (omega arith))
+ends_refused m a = ends m (findings_of a) (omega arith)
 
 ends_clean : (m : Monitor) → Keeps m (ended m [])
 ends_clean m = ends m [] (omega arith)
 
 -- the rules refuse, or checking goes on
-permits : (m : Monitor) (next : ℕ → Checked) → ((rate : ℕ) → Keeps m (next rate)) → (answer : RuleCheck) → Keeps m (permitted m next answer)
-permits m next h (Refused alert) = ends_refused m alert
-permits m next h (Rate rate) = h rate
+permits : (m : Monitor) (next : ℕ → Checked) → ((rate : ℕ) → Keeps m (next rate)) → (answer : Result ℕ CheckAlert) → Keeps m (permitted m next answer)
+permits m next h (Ok rate) = h rate
+permits m next h (Err alert) = ends_refused m alert
 
 mms_reserved_lem : (c : After Bool) → Keeps c.monitor (mms_reserved c)
 mms_reserved_lem c = ends c.monitor _ (cond_holds (AtMost 3) c.answer (omega arith) (omega arith))

@@ -20,7 +20,8 @@ use Rattle.monitor.specs.Parts.{After}
 use Rattle.monitor.specs.Totals.{total, total_alerts, alert_counters, with_alerts}
 use Rattle.inspection.proofs.AlertLaws.{one_pushed}
 use Rattle.inspection.specs.CallTheorems.{alerts_in, AtMostThree, next_number, numbers_in, numbers_from}
-use Rattle.inspection.specs.Report.{Finding, Checked, reported_next, alerts_pushed, reported}
+use Rattle.inspection.specs.declared.report.Finding.{Finding}
+use Rattle.inspection.specs.Report.{Checked, reported_next, alerts_pushed, reported}
 
 -- what is read of each alert, codes or numbers, with one more alert in the next slot
 pub slots_more :

@@ -6,6 +6,7 @@ use mathlib.Core.Path.{◌≡◌, refl, sym, ap, ◌∙◌}
 use native.Mathlib.Omega.{arith}
 use borrow.Author.Tests.{lt-ltb, eq-eqb, ne_eqb}
 use lib.Dec.{ltb}
+use Rattle.std.proofs.Common.{Result, Ok, Err}
 use Rattle.records.specs.declared.error.VsError.{VsError}
 use Rattle.records.specs.declared.frame.GooseFrame.{GooseFrame}
 use Rattle.records.specs.declared.frame.MmsFrame.{MmsFrame}
@@ -40,8 +41,6 @@ use Rattle.inspection.specs.declared.inspect_goose.GooseNumbers.{GooseNumbers}
 use Rattle.inspection.specs.declared.inspect_sv.SvNumbers.{SvNumbers}
 use Rattle.inspection.specs.declared.report.CheckAlert.{CheckAlert}
 use Rattle.inspection.specs.declared.report.CheckAlert.TheVariants.{BoundElsewhere, OverRate, UnknownSvid, CountGap}
-use Rattle.inspection.specs.declared.report.RuleCheck.{RuleCheck}
-use Rattle.inspection.specs.declared.report.RuleCheck.TheVariants.{Refused, Rate}
 use Rattle.inspection.specs.Address.{address_of}
 use Rattle.inspection.specs.InspectGoose.{stream_findings, stream_key, timed_numbers, retransmitted, goose_stream, goose_clock, goose_time_field}
 use Rattle.inspection.specs.InspectGoose.{goose_unknown, control_block, goose_read, goose_read_by, goose_numbers_by, goose_test, checked_goose}
@@ -49,7 +48,8 @@ use Rattle.inspection.specs.InspectMms.{MmsRead, control_key, full_findings, mms
 use Rattle.inspection.specs.InspectMms.{mms_read, mms_read_with, mms_checks, checked_mms}
 use Rattle.inspection.specs.InspectSv.{rate_findings, count_findings, sv_count, sv_clock, sv_time_field, sv_matched, sv_rule}
 use Rattle.inspection.specs.InspectSv.{svid_of, dataset_of, sv_read, sv_read_by, sv_numbers_by, sv_binding, checked_sv, inspect_sv, raw_inspected, inspect_raw_sv}
-use Rattle.inspection.specs.Report.{Finding, Checked, findings_of, clock_findings, ended, unless_hijacked, permitted, with_allowed}
+use Rattle.inspection.specs.declared.report.Finding.{Finding}
+use Rattle.inspection.specs.Report.{Checked, findings_of, clock_findings, ended, unless_hijacked, permitted, with_allowed}
 
 pub nonzero : (n : ℕ) → ¬ (n ≡ 0) → ltb 0 n ≡ true
 nonzero n d = lt-ltb 0 n (omega (arith, d))
@@ -70,13 +70,13 @@ module _ (next : Monitor → Checked) {m : Monitor} {hijack : Bool} {c : After B
   hijack_passed h q = q ∙ sym (cond_no _ _ h) ∙ ap (unless_hijacked next) e
 
 -- what the rules say: refused, or a rate
-module _ (m : Monitor) (next : ℕ → Checked) {rule check : RuleCheck} (e : rule ≡ check) where
+module _ (m : Monitor) (next : ℕ → Checked) {rule check : Result ℕ CheckAlert} (e : rule ≡ check) where
   pub rules_refuse :
-      (alert : CheckAlert) {a : List Finding} → rule ≡ Refused alert → a ≡ findings_of alert
+      (alert : CheckAlert) {a : List Finding} → rule ≡ Err alert → a ≡ findings_of alert
       → record { monitor = m; answer = a } ≡ permitted m next check
   rules_refuse alert q h = ends m h ∙ ap (permitted m next) (sym q ∙ e)
 
-  pub rules_permit : (rate : ℕ) {r : Checked} → rule ≡ Rate rate → r ≡ next rate → r ≡ permitted m next check
+  pub rules_permit : (rate : ℕ) {r : Checked} → rule ≡ Ok rate → r ≡ next rate → r ≡ permitted m next check
   rules_permit rate q h = h ∙ ap (permitted m next) (sym q ∙ e)
 
 -- a frame counted and checked
@@ -92,7 +92,7 @@ none_match p address svid e = rw e
 
 module _ (m : Monitor) (address : ℕ) (svid : List ℕ) where
   -- without publishers there is no rate
-  pub no_publishers : {count : ℕ} → count ≡ sv_publisher_count m.sv_publishers → count ≡ 0 → Rate 0 ≡ sv_rule m address svid
+  pub no_publishers : {count : ℕ} → count ≡ sv_publisher_count m.sv_publishers → count ≡ 0 → Ok 0 ≡ sv_rule m address svid
   unfolding sv_rule
   no_publishers e h =
       sym
@@ -109,9 +109,9 @@ module _ (m : Monitor) (address : ℕ) (svid : List ℕ) where
   pub not_registered :
       {match : PublisherMatch} {count : ℕ} {strict : Bool} → match ≡ sv_publisher m.sv_publishers address svid → match ≡ NotRegistered
       → count ≡ sv_publisher_count m.sv_publishers → ¬ (count ≡ 0) → strict ≡ strict_mode m
-      → cond strict (Refused UnknownSvid) (Rate 0) ≡ sv_rule m address svid
+      → cond strict (Err UnknownSvid) (Ok 0) ≡ sv_rule m address svid
   not_registered e h c d s =
-      ap (λ (b : Bool). cond b (Refused UnknownSvid) (Rate 0))
+      ap (λ (b : Bool). cond b (Err UnknownSvid) (Ok 0))
       (s ∙ sym (ap (λ (b : Bool). strict_mode m && b) (answered (ap (ltb 0) c) (nonzero _ d)) ∙ and-true (strict_mode m)))
       ∙ rule_matched NotRegistered e h
 

@@ -16,7 +16,8 @@ use Rattle.monitor.specs.Totals.{counted_goose}
 use Rattle.inspection.specs.declared.inspect_goose.GooseNumbers.{GooseNumbers}
 use Rattle.inspection.specs.declared.report.CheckAlert.TheVariants.{TestBlocked, UnknownPublisher, GooseReplay, Retransmission}
 use Rattle.inspection.specs.Address.{address_of}
-use Rattle.inspection.specs.Report.{Finding, Checked, findings_of, clock_findings, ended, unless_hijacked, reported}
+use Rattle.inspection.specs.declared.report.Finding.{Finding}
+use Rattle.inspection.specs.Report.{Checked, findings_of, clock_findings, ended, unless_hijacked, reported}
 
 -- the control block's name, the frame's numbers, stNum and sqNum, and the pair of t, seconds and fraction
 abbrev pub control_block : GooseFrame → List ℕ

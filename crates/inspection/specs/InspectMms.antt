@@ -1,5 +1,5 @@
 -- The inspection of an MMS frame (01, "Refusals in checking order", 4 to 8; "Remembered tables", reservation).
-use Rattle.std.specs.Prelude.{ℕ, Bool, false, ◌&&◌, ◌||◌, not, cond, List, [], eqb, ltb}
+use Rattle.std.specs.Prelude.{ℕ, Bool, false, ◌&&◌, ◌||◌, not, cond, List, [], eqb, ltb, Result, Ok, Err}
 use Rattle.records.specs.declared.frame.MmsFrame.{MmsFrame}
 use Rattle.records.specs.declared.result.InspectResult.{InspectResult}
 use Rattle.records.specs.declared.search.Found.{Found}
@@ -14,10 +14,10 @@ use Rattle.monitor.specs.Parts.{After, rate_on, reserved_on, released_on}
 use Rattle.monitor.specs.Settings.{strict_mode, mms_service_mask, mms_read_only}
 use Rattle.monitor.specs.Totals.{counted_mms}
 use Rattle.inspection.specs.declared.inspect_mms.MmsNumbers.{MmsNumbers}
+use Rattle.inspection.specs.declared.report.CheckAlert.{CheckAlert}
 use Rattle.inspection.specs.declared.report.CheckAlert.TheVariants.{ServiceMasked, WriteRefused, OverRate, NoRule, ReservationsFull}
-use Rattle.inspection.specs.declared.report.RuleCheck.{RuleCheck}
-use Rattle.inspection.specs.declared.report.RuleCheck.TheVariants.{Refused, Rate}
-use Rattle.inspection.specs.Report.{Finding, Checked, findings_of, ended, permitted, reported}
+use Rattle.inspection.specs.declared.report.Finding.{Finding}
+use Rattle.inspection.specs.Report.{Checked, findings_of, ended, permitted, reported}
 
 -- what the checks read of a frame: the octets of the name that a control action states, and its numbers
 pub record MmsRead : Type 0 where
@@ -80,19 +80,19 @@ module _ (f : MmsRead) where
   mms_rate rate m = unless_over (over_rate m f.numbers.invoke_id rate f.numbers.timestamp_us)
 
 -- 6. the applying rule is read-only and a write comes: High 2; otherwise its rate. 8. strict, rules exist, none applies: Medium 16
-abbrev pub mms_applying : Bool → List ℕ → Bool → Found → RuleCheck
-mms_applying strict rules write (At i) = cond (rule_read_only rules i && write) (Refused WriteRefused) (Rate (rule_rate rules i))
-mms_applying strict rules write Nothing = cond (strict && ltb 0 (mms_rule_count rules)) (Refused NoRule) (Rate 0)
+abbrev pub mms_applying : Bool → List ℕ → Bool → Found → Result ℕ CheckAlert
+mms_applying strict rules write (At i) = cond (rule_read_only rules i && write) (Err WriteRefused) (Ok (rule_rate rules i))
+mms_applying strict rules write Nothing = cond (strict && ltb 0 (mms_rule_count rules)) (Err NoRule) (Ok 0)
 
 -- whether a mask refuses a raw number: it is nonzero, and the number is 16 or above or its bit is not in it
 unfoldable pub masked : ℕ → ℕ → Bool
 masked mask raw = ltb 0 mask && not (has_bit mask raw)
 
 -- 4. the mask refuses the raw number: Medium 7. 5. read-only and a write: High 2. Masks use the raw number, write checks the service
-unfoldable pub mms_rule : Monitor → ℕ → Bool → RuleCheck
+unfoldable pub mms_rule : Monitor → ℕ → Bool → Result ℕ CheckAlert
 mms_rule m raw write =
-    cond (masked (mms_service_mask m) raw) (Refused ServiceMasked)
-    (cond (mms_read_only m && write) (Refused WriteRefused) (mms_applying (strict_mode m) m.mms_rules write (first_rule m.mms_rules raw)))
+    cond (masked (mms_service_mask m) raw) (Err ServiceMasked)
+    (cond (mms_read_only m && write) (Err WriteRefused) (mms_applying (strict_mode m) m.mms_rules write (first_rule m.mms_rules raw)))
 
 unfoldable pub mms_checks : Monitor → MmsRead → Checked
 mms_checks m f = permitted m (λ rate. mms_rate f rate m) (mms_rule m f.numbers.raw_service_type f.numbers.write)

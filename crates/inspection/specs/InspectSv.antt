@@ -1,5 +1,5 @@
 -- The inspection of a sampled-values frame, decoded or raw (01, "Refusals in checking order", 3 and 14 to 20).
-use Rattle.std.specs.Prelude.{ℕ, Bool, false, ◌&&◌, not, cond, List, [], ◌++◌, eqb, ltb}
+use Rattle.std.specs.Prelude.{ℕ, Bool, false, ◌&&◌, not, cond, List, [], ◌++◌, eqb, ltb, Result, Ok, Err}
 use Rattle.records.specs.declared.frame.SvFrame.{SvFrame}
 use Rattle.records.specs.declared.result.InspectResult.{InspectResult}
 use Rattle.records.specs.Alert.{source_sv}
@@ -21,11 +21,11 @@ use Rattle.monitor.specs.Settings.{strict_mode, time_max_forward_jump, sv_max_sm
 use Rattle.monitor.specs.Totals.{counted_sv}
 use Rattle.inspection.specs.declared.inspect_sv.RawSv.{RawSv}
 use Rattle.inspection.specs.declared.inspect_sv.SvNumbers.{SvNumbers}
+use Rattle.inspection.specs.declared.report.CheckAlert.{CheckAlert}
 use Rattle.inspection.specs.declared.report.CheckAlert.TheVariants.{WrongIed, UnknownSvid, CountReplay, CountGap, SuspiciousCount, RateMismatch}
-use Rattle.inspection.specs.declared.report.RuleCheck.{RuleCheck}
-use Rattle.inspection.specs.declared.report.RuleCheck.TheVariants.{Refused, Rate}
 use Rattle.inspection.specs.Address.{address_of}
-use Rattle.inspection.specs.Report.{Finding, Checked, findings_of, clock_findings, ended, unless_hijacked, permitted, reported, with_allowed}
+use Rattle.inspection.specs.declared.report.Finding.{Finding}
+use Rattle.inspection.specs.Report.{Checked, findings_of, clock_findings, ended, unless_hijacked, permitted, reported, with_allowed}
 
 -- the svID, the data set's name, and the pair of the time field, seconds and fraction
 abbrev pub svid_of : SvFrame → List ℕ
@@ -92,12 +92,12 @@ sv_reservation f rate m = unless_hijacked (sv_time_field f.svid f.numbers rate) 
 
 -- 14. svID registered, never with this address: High 28. 15. strict, publishers exist, svID not among them: Medium 6. Otherwise the
 -- rate of the last rule that fits, none for an svID not among them
-abbrev pub sv_matched : Bool → List ℕ → PublisherMatch → RuleCheck
-sv_matched strict publishers WrongAddress = Refused WrongIed
-sv_matched strict publishers NotRegistered = cond (strict && ltb 0 (sv_publisher_count publishers)) (Refused UnknownSvid) (Rate 0)
-sv_matched strict publishers (Fits i) = Rate (publisher_rate publishers i)
+abbrev pub sv_matched : Bool → List ℕ → PublisherMatch → Result ℕ CheckAlert
+sv_matched strict publishers WrongAddress = Err WrongIed
+sv_matched strict publishers NotRegistered = cond (strict && ltb 0 (sv_publisher_count publishers)) (Err UnknownSvid) (Ok 0)
+sv_matched strict publishers (Fits i) = Ok (publisher_rate publishers i)
 
-unfoldable pub sv_rule : Monitor → ℕ → List ℕ → RuleCheck
+unfoldable pub sv_rule : Monitor → ℕ → List ℕ → Result ℕ CheckAlert
 sv_rule m address svid = sv_matched (strict_mode m) m.sv_publishers (sv_publisher m.sv_publishers address svid)
 
 -- how the svID and the address match the publishers

@@ -1,10 +1,10 @@
 -- What the checks of an inspection find, and the result and counters that report it (01, "Alert and result"; "Refusals in checking order").
-use Rattle.std.specs.Prelude.{ℕ, ◌+◌, ◌*◌, Bool, true, false, ◌&&◌, ◌||◌, not, cond, eqb, ltb, get_or, set}
+use Rattle.std.specs.Prelude.{ℕ, ◌+◌, ◌*◌, Bool, true, false, ◌&&◌, ◌||◌, not, cond, ltb, get_or, set, Option, Some, None, Result, Ok, Err}
 use mathlib.Core.List.{List, [], ◌∷◌, ◌++◌, foldl}
 use Rattle.records.specs.declared.alert.AlertSeverity.{AlertSeverity}
-use Rattle.records.specs.declared.alert.AlertSeverity.TheVariants.{Info, Low, Medium, High}
+use Rattle.records.specs.declared.alert.AlertSeverity.TheVariants.{Low, Medium, High}
 use Rattle.records.specs.declared.alert.AlertCode.{AlertCode}
-use Rattle.records.specs.declared.alert.AlertCode.TheVariants.{Unspecified, UnknownFunctionCode, WriteProtection, RateExceeded, NoMatchingRule}
+use Rattle.records.specs.declared.alert.AlertCode.TheVariants.{UnknownFunctionCode, WriteProtection, RateExceeded, NoMatchingRule}
 use Rattle.records.specs.declared.alert.AlertCode.TheVariants.{ResourceExhausted, PolicyViolation}
 use Rattle.records.specs.declared.alert.AlertCode.TheVariants.{CbHijack, TimeSyncSpoofing, ReplayDetected, RetransmissionAnomaly, IedMismatch, SvReplay}
 use Rattle.records.specs.declared.alert.AlertCode.TheVariants.{SvRateAnomaly}
@@ -18,20 +18,12 @@ use Rattle.monitor.specs.Monitor.{Monitor}
 use Rattle.monitor.specs.Parts.{After}
 use Rattle.monitor.specs.Totals.{alert_counters, with_alerts}
 use Rattle.inspection.specs.declared.report.CheckAlert.{CheckAlert}
-use Rattle.inspection.specs.declared.report.CheckAlert.TheVariants.{Nothing, ServiceMasked, WriteRefused, OverRate, NoRule, ReservationsFull}
+use Rattle.inspection.specs.declared.report.CheckAlert.TheVariants.{ServiceMasked, WriteRefused, OverRate, NoRule, ReservationsFull}
 use Rattle.inspection.specs.declared.report.CheckAlert.TheVariants.{TestBlocked, UnknownPublisher, BoundElsewhere, ClockAlert}
 use Rattle.inspection.specs.declared.report.CheckAlert.TheVariants.{GooseReplay, Retransmission, WrongIed, UnknownSvid, CountReplay, CountGap}
 use Rattle.inspection.specs.declared.report.CheckAlert.TheVariants.{SuspiciousCount, RateMismatch}
-use Rattle.inspection.specs.declared.report.CheckAlerts.{CheckAlerts}
+use Rattle.inspection.specs.declared.report.Finding.{Finding}
 use Rattle.inspection.specs.declared.report.Noted.{Noted}
-use Rattle.inspection.specs.declared.report.RuleCheck.{RuleCheck}
-use Rattle.inspection.specs.declared.report.RuleCheck.TheVariants.{Refused, Rate}
-
--- an alert of a check, and whether it refuses the frame
-pub record Finding : Type 0 where
-  pub severity : AlertSeverity
-  pub code : AlertCode
-  pub refuses : Bool
 
 -- an alert that refuses the frame: those of 01's numbered list
 abbrev pub refusal : AlertSeverity → AlertCode → Finding
@@ -41,9 +33,8 @@ refusal severity code = record { severity = severity; code = code; refuses = tru
 abbrev pub notice : AlertSeverity → AlertCode → Finding
 notice severity code = record { severity = severity; code = code; refuses = false }
 
--- the alerts that checks give, by their answers; Nothing has the code Unspecified, number 0, which no alert of a check has
+-- the alerts that checks give
 abbrev pub finding_of : CheckAlert → Finding
-finding_of Nothing = notice Info Unspecified
 finding_of ServiceMasked = refusal Medium UnknownFunctionCode
 finding_of WriteRefused = refusal High WriteProtection
 finding_of OverRate = refusal Medium RateExceeded
@@ -64,7 +55,6 @@ finding_of RateMismatch = refusal Medium SvRateAnomaly
 
 -- the number of an alert in 01's list of refusals, the first of two; 0 for one that alone does not refuse
 abbrev pub refusal_number : CheckAlert → ℕ
-refusal_number Nothing = 0
 refusal_number ServiceMasked = 4
 refusal_number WriteRefused = 5
 refusal_number OverRate = 7
@@ -88,17 +78,18 @@ abbrev pub check_alert_row : CheckAlert → List ℕ
 check_alert_row a = refusal_number a ∷ severity_number (finding_of a).severity ∷ code_number (finding_of a).code ∷ []
 
 -- what the rules say as a row: 1 and the rate, or 0 and the alert
-abbrev pub rule_check_row : RuleCheck → List ℕ
-rule_check_row (Refused alert) = 0 ∷ check_alert_row alert
-rule_check_row (Rate rate) = 1 ∷ rate ∷ []
+abbrev pub rule_check_row : Result ℕ CheckAlert → List ℕ
+rule_check_row (Ok rate) = 1 ∷ rate ∷ []
+rule_check_row (Err alert) = 0 ∷ check_alert_row alert
 
--- whether a check found nothing
-abbrev pub is_nothing : CheckAlert → Bool
-is_nothing a = eqb (code_number (finding_of a).code) 0
+-- an alert of a check by itself
+abbrev pub findings_of : CheckAlert → List Finding
+findings_of a = finding_of a ∷ []
 
 -- the alerts of a check's answer
-abbrev pub findings_of : CheckAlert → List Finding
-findings_of a = cond (is_nothing a) [] (finding_of a ∷ [])
+abbrev pub findings_in : Option CheckAlert → List Finding
+findings_in None = []
+findings_in (Some a) = findings_of a
 
 -- a clock alert: High 31, checking goes on
 abbrev pub clock_findings : Bool → List Finding
@@ -117,9 +108,9 @@ abbrev pub unless_hijacked : (Monitor → Checked) → After Bool → Checked
 unless_hijacked next c = cond c.answer (ended c.monitor (findings_of BoundElsewhere)) (next c.monitor)
 
 -- checking ends where the rules refuse, and goes on with the rate that they give
-abbrev pub permitted : Monitor → (ℕ → Checked) → RuleCheck → Checked
-permitted m next (Refused alert) = ended m (findings_of alert)
-permitted m next (Rate rate) = next rate
+abbrev pub permitted : Monitor → (ℕ → Checked) → Result ℕ CheckAlert → Checked
+permitted m next (Ok rate) = next rate
+permitted m next (Err alert) = ended m (findings_of alert)
 
 -- a result with this allowed flag
 abbrev pub with_allowed : InspectResult → Bool → InspectResult
@@ -151,13 +142,16 @@ reported source source_number time c = pushed_on c.monitor (alerts_pushed source
 
 -- ---- for the code: what it keeps of the findings
 
--- the alerts of three answers in their order
-abbrev pub alerts_of : CheckAlerts → List Finding
-alerts_of a = findings_of a.first ++ (findings_of a.second ++ findings_of a.third)
+-- the alerts of the checks' answers in their order
+abbrev pub alerts_of : List (Option CheckAlert) → List Finding
+alerts_of [] = []
+alerts_of (a ∷ rest) = findings_in a ++ alerts_of rest
 
--- whether three checks found nothing
-abbrev pub none_found : CheckAlerts → Bool
-none_found a = is_nothing a.first && (is_nothing a.second && is_nothing a.third)
+-- whether the checks found nothing
+abbrev pub none_found : List (Option CheckAlert) → Bool
+none_found [] = true
+none_found (None ∷ rest) = none_found rest
+none_found (Some a ∷ rest) = false
 
 -- the verdict of a result, and the counters
 abbrev pub noted_of : Pushed → Noted

@@ -7,12 +7,12 @@ ghost use Rattle.checks.specs.Keys.{plain_key, reservation_key};
 ghost use Rattle.monitor.specs.Monitor.{monitor_of};
 ghost use Rattle.inspection.specs.InspectGoose.{stream_findings, retransmitted, goose_time_field, goose_reservation, goose_unknown};
 ghost use Rattle.inspection.specs.InspectGoose.{goose_read_by, goose_test, blocked, checked_goose, inspect_goose};
-ghost use Rattle.inspection.specs.Report.{clock_findings, findings_of, alerts_of};
+ghost use Rattle.inspection.specs.Report.{clock_findings, findings_in, alerts_of};
 
 use crate::address::address_of;
 use crate::clock::clock_checked;
 use crate::hijack::hijacked;
-use crate::report::{CheckAlert, CheckAlerts, clock_alert, one_alert, report_on};
+use crate::report::{AlertSource, CheckAlert, CheckAlerts, clock_alert, one_alert, report_on};
 use checks::keys::{goose_key, plain_key};
 use monitor::parts::{
     WORDS, check_goose_seq_on, goose_publisher_count_on, goose_publisher_on, retx_anomaly_on,
@@ -40,27 +40,23 @@ pub struct GooseNumbers {
 }
 
 // A replay refuses; otherwise a retransmission outside tolerance is told.
-fn stream_alert(replay: bool, outside: bool) -> CheckAlert
-    ensures { findings_of result ≡ stream_findings replay outside }
+fn stream_alert(replay: bool, outside: bool) -> Option<CheckAlert>
+    ensures { findings_in result ≡ stream_findings replay outside }
 {
     if replay {
-        return CheckAlert::GooseReplay;
+        return Some(CheckAlert::GooseReplay);
     }
     if outside {
-        return CheckAlert::Retransmission;
+        return Some(CheckAlert::Retransmission);
     }
-    CheckAlert::Nothing
+    None
 }
 
 // The alerts of the clock and the stream.
 fn goose_alerts(clock: bool, replay: bool, outside: bool) -> CheckAlerts
     ensures { alerts_of result ≡ clock_findings clock ++ stream_findings replay outside }
 {
-    CheckAlerts {
-        first: clock_alert(clock),
-        second: stream_alert(replay, outside),
-        third: CheckAlert::Nothing,
-    }
+    [clock_alert(clock), stream_alert(replay, outside), None]
 }
 
 // Whether a retransmission is outside tolerance; asked only with enforcement on.
@@ -92,7 +88,7 @@ fn goose_reservation(m: &mut [u64; WORDS], name: &[u8; 64], len: u8, n: GooseNum
         ≡ goose_reservation n (reservation_key true (name_of name.now len)) (monitor_of m.old) }
 {
     if hijacked(m, true, name, len, n.address) {
-        return one_alert(CheckAlert::BoundElsewhere);
+        return one_alert(Some(CheckAlert::BoundElsewhere));
     }
     goose_time_field(m, n)
 }
@@ -131,10 +127,10 @@ pub fn goose_checks_on(
         ≡ goose_test (monitor_of m.old) (goose_read_by (name_of name.now len) n) }
 {
     if goose_blocked(m, n.test) {
-        return one_alert(CheckAlert::TestBlocked);
+        return one_alert(Some(CheckAlert::TestBlocked));
     }
     if goose_unknown(m, n.address, name, len) {
-        return one_alert(CheckAlert::UnknownPublisher);
+        return one_alert(Some(CheckAlert::UnknownPublisher));
     }
     goose_reservation(m, name, len, n)
 }
@@ -176,8 +172,10 @@ pub fn inspect_goose_on(m: &mut [u64; WORDS], frame: GooseFrame) -> InspectResul
     report_on(
         m,
         alerts,
-        SOURCE_IEC61850_GOOSE,
-        frame.st_num,
-        frame.timestamp_us,
+        AlertSource {
+            source_type: SOURCE_IEC61850_GOOSE,
+            source_id: frame.st_num,
+            timestamp_us: frame.timestamp_us,
+        },
     )
 }

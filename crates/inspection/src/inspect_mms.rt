@@ -5,9 +5,9 @@ ghost use Rattle.monitor.specs.Monitor.{monitor_of};
 ghost use Rattle.monitor.specs.Settings.{strict_mode};
 ghost use Rattle.inspection.specs.InspectMms.{control_key, full_findings, releases, mms_control, over_rate, mms_rate, mms_applying, masked};
 ghost use Rattle.inspection.specs.InspectMms.{mms_rule, mms_checks, checked_mms, inspect_mms};
-ghost use Rattle.inspection.specs.Report.{findings_of, alerts_of};
+ghost use Rattle.inspection.specs.Report.{findings_in, alerts_of};
 
-use crate::report::{CheckAlert, CheckAlerts, RuleCheck, one_alert, report_on};
+use crate::report::{AlertSource, CheckAlert, CheckAlerts, one_alert, report_on};
 use checks::keys::reservation_key;
 use checks::mms_rule::has_bit;
 use monitor::parts::{
@@ -45,48 +45,48 @@ fn masked(mask: u64, raw: u8) -> bool
 }
 
 // What the rule that applies says of a frame, or the lack of one.
-fn mms_applying(m: &[u64; WORDS], found: Found, write: bool) -> RuleCheck
+fn mms_applying(m: &[u64; WORDS], found: Found, write: bool) -> Result<u16, CheckAlert>
     ensures { result ≡ mms_applying (strict_mode (monitor_of m.now)) (monitor_of m.now).mms_rules write found }
 {
     match found {
         Found::At(i) => {
             if rule_read_only_on(m, i) && write {
-                return RuleCheck::Refused(CheckAlert::WriteRefused);
+                return Err(CheckAlert::WriteRefused);
             }
-            RuleCheck::Rate(rule_rate_on(m, i))
+            Ok(rule_rate_on(m, i))
         }
         Found::Nothing => {
             let count = mms_rule_count_on(m);
             if flag_on(m, STRICT_MODE) && count > 0 {
-                return RuleCheck::Refused(CheckAlert::NoRule);
+                return Err(CheckAlert::NoRule);
             }
-            RuleCheck::Rate(0)
+            Ok(0)
         }
     }
 }
 
 // 4 to 6 and 8: the mask, read-only mode, and the first rule that applies. Masks use the raw number.
-fn mms_rule(m: &[u64; WORDS], raw: u8, write: bool) -> RuleCheck
+fn mms_rule(m: &[u64; WORDS], raw: u8, write: bool) -> Result<u16, CheckAlert>
     ensures { result ≡ mms_rule (monitor_of m.now) raw write }
 {
     if masked(setting_on(m, MMS_SERVICE_MASK), raw) {
-        return RuleCheck::Refused(CheckAlert::ServiceMasked);
+        return Err(CheckAlert::ServiceMasked);
     }
     if flag_on(m, MMS_READ_ONLY) && write {
-        return RuleCheck::Refused(CheckAlert::WriteRefused);
+        return Err(CheckAlert::WriteRefused);
     }
     let found = first_rule_on(m, raw);
     mms_applying(m, found, write)
 }
 
 // A full reservation table gives an alert that does not refuse.
-fn full_alert(taken: bool) -> CheckAlert
-    ensures { findings_of result ≡ full_findings taken }
+fn full_alert(taken: bool) -> Option<CheckAlert>
+    ensures { findings_in result ≡ full_findings taken }
 {
     if taken {
-        CheckAlert::Nothing
+        None
     } else {
-        CheckAlert::ReservationsFull
+        Some(CheckAlert::ReservationsFull)
     }
 }
 
@@ -120,9 +120,9 @@ fn mms_control(m: &mut [u64; WORDS], domain: &[u8; 64], n: MmsNumbers) -> CheckA
     if releases(n.service) {
         let key = control_key(domain, n);
         release_cb_on(m, &key, n.client_id);
-        return one_alert(CheckAlert::Nothing);
+        return one_alert(None);
     }
-    one_alert(CheckAlert::Nothing)
+    one_alert(None)
 }
 
 // Whether a request is over the rate of its rule; a rate of 0 is no limit.
@@ -141,7 +141,7 @@ fn mms_rate(m: &mut [u64; WORDS], domain: &[u8; 64], n: MmsNumbers, rate: u16) -
         ≡ mms_rate (record { domain = domain.entry.now; numbers = n }) rate (monitor_of m.old) }
 {
     if over_rate(m, n.invoke_id, rate, n.timestamp_us) {
-        return one_alert(CheckAlert::OverRate);
+        return one_alert(Some(CheckAlert::OverRate));
     }
     mms_control(m, domain, n)
 }
@@ -152,8 +152,8 @@ pub fn mms_checks_on(m: &mut [u64; WORDS], domain: &[u8; 64], n: MmsNumbers) -> 
         ≡ mms_checks (monitor_of m.old) (record { domain = domain.entry.now; numbers = n }) }
 {
     match mms_rule(m, n.raw_service_type, n.write) {
-        RuleCheck::Refused(alert) => one_alert(alert),
-        RuleCheck::Rate(rate) => mms_rate(m, domain, n, rate),
+        Err(alert) => one_alert(Some(alert)),
+        Ok(rate) => mms_rate(m, domain, n, rate),
     }
 }
 
@@ -184,8 +184,10 @@ pub fn inspect_mms_on(m: &mut [u64; WORDS], frame: MmsFrame) -> InspectResult
     report_on(
         m,
         alerts,
-        SOURCE_IEC61850_MMS,
-        frame.invoke_id,
-        frame.timestamp_us,
+        AlertSource {
+            source_type: SOURCE_IEC61850_MMS,
+            source_id: frame.invoke_id,
+            timestamp_us: frame.timestamp_us,
+        },
     )
 }

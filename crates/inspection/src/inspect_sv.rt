@@ -8,12 +8,12 @@ ghost use Rattle.monitor.specs.Monitor.{monitor_of};
 ghost use Rattle.monitor.specs.Parts.{cb_on};
 ghost use Rattle.inspection.specs.InspectSv.{rate_findings, count_findings, sv_rule, sv_time_field, sv_reservation, sv_binding};
 ghost use Rattle.inspection.specs.InspectSv.{sv_read_by, checked_sv, inspect_sv, inspect_raw_sv};
-ghost use Rattle.inspection.specs.Report.{clock_findings, findings_of, alerts_of};
+ghost use Rattle.inspection.specs.Report.{clock_findings, findings_in, alerts_of};
 
 use crate::address::address_of;
 use crate::clock::clock_checked;
 use crate::hijack::hijacked;
-use crate::report::{CheckAlert, CheckAlerts, RuleCheck, clock_alert, one_alert, report_on};
+use crate::report::{AlertSource, CheckAlert, CheckAlerts, clock_alert, one_alert, report_on};
 use checks::keys::plain_key;
 use checks::sv_publisher::PublisherMatch;
 use checks::sv_seq::SvSeqOutcome;
@@ -45,40 +45,31 @@ pub struct RawSv {
 }
 
 // A replay refuses, and so does a gap above a nonzero limit; a suspicious count does not.
-fn count_alert(outcome: SvSeqOutcome, limit: u64) -> CheckAlert
-    ensures { findings_of result ≡ count_findings limit [] outcome }
+fn count_alert(outcome: SvSeqOutcome, limit: u64) -> Option<CheckAlert>
+    ensures { findings_in result ≡ count_findings limit [] outcome }
 {
     match outcome {
-        SvSeqOutcome::FirstSeen => CheckAlert::Nothing,
-        SvSeqOutcome::Replay => CheckAlert::CountReplay,
+        SvSeqOutcome::FirstSeen => None,
+        SvSeqOutcome::Replay => Some(CheckAlert::CountReplay),
         SvSeqOutcome::ForwardGap(gap) => {
             if limit > 0 && (gap as u64) > limit {
-                return CheckAlert::CountGap;
+                return Some(CheckAlert::CountGap);
             }
-            CheckAlert::Nothing
+            None
         }
-        SvSeqOutcome::CycleWrap => CheckAlert::Nothing,
-        SvSeqOutcome::SuspiciousSmpGap(_) => { CheckAlert::SuspiciousCount }
+        SvSeqOutcome::CycleWrap => None,
+        SvSeqOutcome::SuspiciousSmpGap(_) => Some(CheckAlert::SuspiciousCount),
     }
 }
 
 // The rate is not compared after a replay, nor where the frame or the rule has none.
-fn rate_alert(replay: bool, frame_rate: u16, rate: u16) -> CheckAlert
-    ensures { findings_of result ≡ cond replay [] (rate_findings frame_rate rate) }
+fn rate_alert(replay: bool, frame_rate: u16, rate: u16) -> Option<CheckAlert>
+    ensures { findings_in result ≡ cond replay [] (rate_findings frame_rate rate) }
 {
-    if replay {
-        return CheckAlert::Nothing;
+    if replay || frame_rate == 0 || rate == 0 || frame_rate == rate {
+        return None;
     }
-    if frame_rate == 0 {
-        return CheckAlert::Nothing;
-    }
-    if rate == 0 {
-        return CheckAlert::Nothing;
-    }
-    if frame_rate == rate {
-        return CheckAlert::Nothing;
-    }
-    CheckAlert::RateMismatch
+    Some(CheckAlert::RateMismatch)
 }
 
 // The alerts of the clock, the count and the rate.
@@ -91,11 +82,11 @@ fn sv_alerts(
 ) -> CheckAlerts
     ensures { alerts_of result ≡ clock_findings clock ++ count_findings limit (rate_findings frame_rate rate) outcome }
 {
-    CheckAlerts {
-        first: clock_alert(clock),
-        second: count_alert(outcome, limit),
-        third: rate_alert(outcome.is_replay(), frame_rate, rate),
-    }
+    [
+        clock_alert(clock),
+        count_alert(outcome, limit),
+        rate_alert(outcome.is_replay(), frame_rate, rate),
+    ]
 }
 
 // 17 to 20: the clock; the count, also after a clock alert; the rate.
@@ -134,28 +125,28 @@ fn sv_reservation(
         ≡ sv_reservation (sv_read_by svid.now (name_of dataset.now dataset_len) n) rate (monitor_of m.old) }
 {
     if dataset_hijacked(m, dataset, dataset_len, n.address) {
-        return one_alert(CheckAlert::BoundElsewhere);
+        return one_alert(Some(CheckAlert::BoundElsewhere));
     }
     sv_time_field(m, svid, n, rate)
 }
 
 // 14, 15: what the publishers say of a frame. Where there are none, none is searched for.
-fn sv_rule(m: &[u64; WORDS], address: u64, svid: &[u64; 10]) -> RuleCheck
+fn sv_rule(m: &[u64; WORDS], address: u64, svid: &[u64; 10]) -> Result<u16, CheckAlert>
     ensures { result ≡ sv_rule (monitor_of m.now) address svid.now }
 {
     let count = sv_publisher_count_on(m);
     if count == 0 {
-        return RuleCheck::Rate(0);
+        return Ok(0);
     }
     match sv_publisher_on(m, address, svid) {
-        PublisherMatch::WrongAddress => { RuleCheck::Refused(CheckAlert::WrongIed) }
+        PublisherMatch::WrongAddress => { Err(CheckAlert::WrongIed) }
         PublisherMatch::NotRegistered => {
             if flag_on(m, STRICT_MODE) {
-                return RuleCheck::Refused(CheckAlert::UnknownSvid);
+                return Err(CheckAlert::UnknownSvid);
             }
-            RuleCheck::Rate(0)
+            Ok(0)
         }
-        PublisherMatch::Fits(i) => RuleCheck::Rate(publisher_rate_on(m, i)),
+        PublisherMatch::Fits(i) => Ok(publisher_rate_on(m, i)),
     }
 }
 
@@ -171,8 +162,8 @@ pub fn sv_checks_on(
         ≡ sv_binding (monitor_of m.old) (sv_read_by svid.now (name_of dataset.now dataset_len) n) }
 {
     match sv_rule(m, n.address, svid) {
-        RuleCheck::Refused(alert) => one_alert(alert),
-        RuleCheck::Rate(rate) => sv_reservation(m, svid, dataset, dataset_len, n, rate),
+        Err(alert) => one_alert(Some(alert)),
+        Ok(rate) => sv_reservation(m, svid, dataset, dataset_len, n, rate),
     }
 }
 
@@ -207,9 +198,11 @@ pub fn inspect_sv_on(m: &mut [u64; WORDS], frame: SvFrame) -> InspectResult
     report_on(
         m,
         alerts,
-        SOURCE_IEC61850_SV,
-        frame.smp_cnt as u32,
-        frame.timestamp_us,
+        AlertSource {
+            source_type: SOURCE_IEC61850_SV,
+            source_id: frame.smp_cnt as u32,
+            timestamp_us: frame.timestamp_us,
+        },
     )
 }
 

@@ -10,7 +10,7 @@ use Rattle.host.proofs.result.host_report.Goals as goal
 pub returns-then-none_found : goal.returns-then-none_found
 returns-then-none_found c = let a = c.args in
     (λ i. record { monitor = monitor_of a.m.now; answer = c.clean_result.ensures i })
-    ∙ ap (result.answered host_result) (none_reported a.source_type a.source_id a.ts_us (monitor_of a.m.now) a.alerts refl
+    ∙ ap (result.answered host_result) (none_reported a.source.source_type a.source.source_id a.source.timestamp_us (monitor_of a.m.now) a.alerts refl
     (answered c.none_found.ensures c.if-none_found.true))
 
 pub returns : goal.returns

@@ -1,8 +1,8 @@
 -- `mms_applying` meets its contract.
 use mathlib.Core.Path.{sym, ap, ◌∙◌}
 use lib.Dec.{ltb}
+use Rattle.std.proofs.Common.{Ok}
 use Rattle.records.proofs.Booleans.{answered, cond_yes, cond_no, and_yes, and_no}
-use Rattle.inspection.specs.declared.report.RuleCheck.TheVariants.{Rate}
 use Rattle.inspection.proofs.inspect_mms.mms_applying.Goals as goal
 use Rattle.inspection.proofs.inspect_mms.mms_applying.Goals.{else-flag_on-via-then-flag_on+else-count-gt0, else-flag_on-via-else-flag_on}
 use Rattle.inspection.proofs.inspect_mms.mms_applying.Goals.{else-rule_read_only_on-via-then-rule_read_only_on+else-write, else-rule_read_only_on-via-else-rule_read_only_on}
@@ -19,7 +19,7 @@ returns-then-count-gt0 c = rw c.in-Nothing.is
 pub returns-else-rule_read_only_on : goal.returns-else-rule_read_only_on
 returns-else-rule_read_only_on c = let e = c.rule_read_only_on.ensures in
     rw c.in-At.is
-    (ap Rate c.rule_rate_on.ensures
+    (ap Ok c.rule_rate_on.ensures
     ∙ sym (cond_no _ _
     (elim c.else-rule_read_only_on.branch [
       | else-rule_read_only_on-via-then-rule_read_only_on+else-write w ↦ and_yes (answered e w.if-rule_read_only_on.true) w.if-write.false

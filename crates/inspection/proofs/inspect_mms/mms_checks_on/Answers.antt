@@ -4,16 +4,16 @@ use Rattle.inspection.specs.InspectMms.{MmsRead, mms_rate, mms_checks}
 use Rattle.inspection.proofs.StageLaws.{rules_refuse, rules_permit}
 use Rattle.inspection.proofs.inspect_mms.mms_checks_on.Goals as goal
 
-pub returns-in-Refused : goal.returns-in-Refused
+pub returns-in-Err : goal.returns-in-Err
 unfolding mms_checks
-returns-in-Refused c = let a = c.args in
+returns-in-Err c = let a = c.args in
     let m = monitor_of a.m.now in
     let f : MmsRead = record { domain = a.domain.now; numbers = a.n } in
-    rules_refuse m (λ rate. mms_rate f rate m) c.mms_rule.ensures _ c.in-Refused.is c.one_alert.ensures
+    rules_refuse m (λ rate. mms_rate f rate m) c.mms_rule.ensures _ c.in-Err.is c.one_alert.ensures
 
-pub returns-in-Rate : goal.returns-in-Rate
+pub returns-in-Ok : goal.returns-in-Ok
 unfolding mms_checks
-returns-in-Rate c = let a = c.args in
+returns-in-Ok c = let a = c.args in
     let m = monitor_of a.m.now in
     let f : MmsRead = record { domain = a.domain.now; numbers = a.n } in
-    rules_permit m (λ rate. mms_rate f rate m) c.mms_rule.ensures _ c.in-Rate.is c.mms_rate.ensures
+    rules_permit m (λ rate. mms_rate f rate m) c.mms_rule.ensures _ c.in-Ok.is c.mms_rate.ensures

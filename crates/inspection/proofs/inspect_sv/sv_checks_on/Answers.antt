@@ -5,16 +5,16 @@ use Rattle.inspection.specs.InspectSv.{sv_read_by, sv_reservation, sv_binding}
 use Rattle.inspection.proofs.StageLaws.{rules_refuse, rules_permit}
 use Rattle.inspection.proofs.inspect_sv.sv_checks_on.Goals as goal
 
-pub returns-in-Refused : goal.returns-in-Refused
+pub returns-in-Err : goal.returns-in-Err
 unfolding sv_binding
-returns-in-Refused c = let a = c.args in
+returns-in-Err c = let a = c.args in
     let m = monitor_of a.m.now in
     let f = sv_read_by a.svid.now (name_of a.dataset.now a.dataset_len) a.n in
-    rules_refuse m (λ rate. sv_reservation f rate m) c.sv_rule.ensures _ c.in-Refused.is c.one_alert.ensures
+    rules_refuse m (λ rate. sv_reservation f rate m) c.sv_rule.ensures _ c.in-Err.is c.one_alert.ensures
 
-pub returns-in-Rate : goal.returns-in-Rate
+pub returns-in-Ok : goal.returns-in-Ok
 unfolding sv_binding
-returns-in-Rate c = let a = c.args in
+returns-in-Ok c = let a = c.args in
     let m = monitor_of a.m.now in
     let f = sv_read_by a.svid.now (name_of a.dataset.now a.dataset_len) a.n in
-    rules_permit m (λ rate. sv_reservation f rate m) c.sv_rule.ensures _ c.in-Rate.is c.sv_reservation.ensures
+    rules_permit m (λ rate. sv_reservation f rate m) c.sv_rule.ensures _ c.in-Ok.is c.sv_reservation.ensures

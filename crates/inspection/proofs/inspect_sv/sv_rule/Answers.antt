@@ -1,10 +1,10 @@
 -- `sv_rule` meets its contract.
 use mathlib.Core.Path.{sym, ap, ◌∙◌}
+use Rattle.std.proofs.Common.{Ok}
 use Rattle.records.proofs.Booleans.{cond_yes, cond_no}
 use Rattle.checks.specs.declared.sv_publisher.PublisherMatch.TheVariants.{WrongAddress, Fits}
 use Rattle.monitor.specs.Monitor.{monitor_of}
 use Rattle.inspection.proofs.StageLaws.{no_publishers, rule_matched, not_registered}
-use Rattle.inspection.specs.declared.report.RuleCheck.TheVariants.{Rate}
 use Rattle.inspection.proofs.inspect_sv.sv_rule.Goals as goal
 
 pub returns-then-count-eq0 : goal.returns-then-count-eq0
@@ -29,5 +29,5 @@ returns-else-flag_on c = let a = c.args in
 
 pub returns-in-Fits : goal.returns-in-Fits
 returns-in-Fits c = let a = c.args in
-    ap Rate c.publisher_rate_on.ensures
+    ap Ok c.publisher_rate_on.ensures
     ∙ rule_matched (monitor_of a.m.now) a.address a.svid.now (Fits _) c.sv_publisher_on.ensures c.in-Fits.is

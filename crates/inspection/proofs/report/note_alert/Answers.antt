@@ -1,7 +1,8 @@
 -- `note_alert` meets its contract.
-use mathlib.Core.Path.{ap, ◌∙◌}
+use mathlib.Core.Path.{◌≡◌, ap, ◌∙◌}
 use Rattle.records.specs.Alert.{code_number, severity_number}
-use Rattle.inspection.specs.Report.{finding_of}
+use Rattle.inspection.specs.declared.report.Finding.{Finding}
+use Rattle.inspection.specs.Report.{finding_of, alert_noted}
 use Rattle.inspection.proofs.AlertLaws.{alert_put, alert_left}
 use Rattle.inspection.proofs.report.note_alert.Goals as goal
 
@@ -10,6 +11,7 @@ returns-then-count-ge3 c = alert_left _ _ c.if-count-ge3.true
 
 pub returns : goal.returns
 returns c = let a = c.args in
-    alert_put a.n (finding_of a.alert) c.if-count-ge3.false c.allowed_octet.ensures
-    (c.code.ensures ∙ ap code_number c.code_of-code.ensures) (c.number.ensures ∙ ap severity_number c.severity_of-severity.ensures)
+    alert_put a.n c.finding-found.result c.if-count-ge3.false c.allowed_octet.ensures
+    c.code.ensures c.number.ensures
     c.wrapping_increment.ensures c.saturating_increment.ensures
+    ∙ ap (alert_noted a.n) c.finding-found.ensures
