@@ -35,38 +35,41 @@ pub struct HostGooseFrame {
 }
 
 // The engine's MMS frame of one of numbers.
-pub fn mms_frame_of(f: HostMmsFrame) -> MmsFrame
-    ensures { result ≡ mms_frame_of f }
-{
-    let service = MmsServiceType::from_u8(f.service_type);
-    let domain = f.domain;
-    MmsFrame {
-        service_type: service,
-        raw_service_type: f.raw_service_type,
-        domain: domain,
-        domain_len: f.domain_len,
-        invoke_id: f.invoke_id,
-        timestamp_us: f.timestamp_us,
-        client_id: f.client_id,
-        control_block_is_goose: f.control_block_is_goose != 0,
+impl From<HostMmsFrame> for MmsFrame {
+    ghost from_gives = { λ f r. r ≡ mms_frame_of f };
+
+    fn from(f: HostMmsFrame) -> MmsFrame {
+        let domain = f.domain;
+        MmsFrame {
+            service_type: MmsServiceType::from_u8(f.service_type),
+            raw_service_type: f.raw_service_type,
+            domain,
+            domain_len: f.domain_len,
+            invoke_id: f.invoke_id,
+            timestamp_us: f.timestamp_us,
+            client_id: f.client_id,
+            control_block_is_goose: f.control_block_is_goose != 0,
+        }
     }
 }
 
 // The engine's GOOSE frame of one of numbers.
-pub fn goose_frame_of(f: HostGooseFrame) -> GooseFrame
-    ensures { result ≡ goose_frame_of f }
-{
-    let src_mac = f.src_mac;
-    let go_cb_ref = f.go_cb_ref;
-    GooseFrame {
-        src_mac: src_mac,
-        go_cb_ref: go_cb_ref,
-        go_cb_ref_len: f.go_cb_ref_len,
-        st_num: f.st_num,
-        sq_num: f.sq_num,
-        test: f.test != 0,
-        timestamp_us: f.timestamp_us,
-        t_seconds_since_epoch: f.t_seconds_since_epoch,
-        t_fraction_of_second: f.t_fraction_of_second,
+impl From<HostGooseFrame> for GooseFrame {
+    ghost from_gives = { λ f r. r ≡ goose_frame_of f };
+
+    fn from(f: HostGooseFrame) -> GooseFrame {
+        let src_mac = f.src_mac;
+        let go_cb_ref = f.go_cb_ref;
+        GooseFrame {
+            src_mac,
+            go_cb_ref,
+            go_cb_ref_len: f.go_cb_ref_len,
+            st_num: f.st_num,
+            sq_num: f.sq_num,
+            test: f.test != 0,
+            timestamp_us: f.timestamp_us,
+            t_seconds_since_epoch: f.t_seconds_since_epoch,
+            t_fraction_of_second: f.t_fraction_of_second,
+        }
     }
 }

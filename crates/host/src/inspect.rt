@@ -10,15 +10,15 @@ ghost use Rattle.host.specs.Frame.{mms_frame_of, goose_frame_of};
 ghost use Rattle.host.specs.Result.{host_result, raw_result, host_parsed, answered};
 
 use crate::flag::parsed_error;
-use crate::frame::{HostGooseFrame, HostMmsFrame, goose_frame_of, mms_frame_of};
-use crate::result::{HostInspected, HostParsed, HostRawInspected, host_report, host_result};
+use crate::frame::{HostGooseFrame, HostMmsFrame};
+use crate::result::{HostInspected, HostParsed, HostRawInspected, HostResult, host_report};
 use entries::iec61850_monitor::Iec61850Monitor;
 use inspection::inspect_goose::inspect_goose_on;
 use inspection::inspect_mms::inspect_mms_on;
 use inspection::inspect_sv::{check_sv_on, inspect_raw_sv_on};
 use inspection::report::AlertSource;
 use records::alert::SOURCE_IEC61850_SV;
-use records::frame::SvFrame;
+use records::frame::{GooseFrame, MmsFrame, SvFrame};
 use sv_frame::sv::parse_sv;
 
 // The monitor after an MMS frame, and the result.
@@ -30,11 +30,10 @@ pub extern "C" fn mokyndu_inspect_mms(
     ensures { record { monitor = monitor_of result.monitor.words; answer = result.result }
         ≡ answered host_result (inspect_mms (monitor_of monitor.words) (mms_frame_of frame)) }
 {
-    let request = mms_frame_of(frame);
-    let result = inspect_mms_on(&mut monitor.words, request);
+    let result = inspect_mms_on(&mut monitor.words, MmsFrame::from(frame));
     HostInspected {
-        monitor: monitor,
-        result: host_result(result),
+        monitor,
+        result: HostResult::from(result),
     }
 }
 
@@ -47,11 +46,10 @@ pub extern "C" fn mokyndu_inspect_goose(
     ensures { record { monitor = monitor_of result.monitor.words; answer = result.result }
         ≡ answered host_result (inspect_goose (monitor_of monitor.words) (goose_frame_of frame)) }
 {
-    let message = goose_frame_of(frame);
-    let result = inspect_goose_on(&mut monitor.words, message);
+    let result = inspect_goose_on(&mut monitor.words, GooseFrame::from(frame));
     HostInspected {
-        monitor: monitor,
-        result: host_result(result),
+        monitor,
+        result: HostResult::from(result),
     }
 }
 
@@ -71,10 +69,7 @@ pub extern "C" fn mokyndu_inspect_sv(mut monitor: Iec61850Monitor, frame: SvFram
             timestamp_us: frame.timestamp_us,
         },
     );
-    HostInspected {
-        monitor: monitor,
-        result: result,
-    }
+    HostInspected { monitor, result }
 }
 
 // The monitor after the octets of an SV frame, and the result; octets that cannot be read leave the monitor, and are not allowed.
@@ -91,8 +86,8 @@ pub extern "C" fn mokyndu_inspect_raw_sv(
     let answer = raw.answer;
     let result = raw.result;
     HostRawInspected {
-        monitor: monitor,
-        result: host_result(result),
+        monitor,
+        result: HostResult::from(result),
         error: parsed_error(answer),
     }
 }
@@ -106,7 +101,7 @@ pub extern "C" fn mokyndu_parse_sv(octets: &[u8], timestamp_us: u64) -> HostPars
     let answer = parsed.answer;
     let frame = parsed.frame;
     HostParsed {
-        frame: frame,
+        frame,
         error: parsed_error(answer),
     }
 }

@@ -6,7 +6,7 @@ ghost use Rattle.inspection.specs.Report.{alerts_of, ended, reported};
 ghost use Rattle.host.specs.Flag.{added_error};
 ghost use Rattle.host.specs.Result.{host_alert, host_result, answered};
 
-use crate::flag::{added_error, flag_number};
+use crate::flag::added_error;
 use entries::iec61850_monitor::{Configured, Iec61850Monitor};
 use inspection::report::{AlertSource, CheckAlerts, none_found, report_on};
 use monitor::parts::WORDS;
@@ -87,44 +87,37 @@ pub struct HostParsed {
 }
 
 // An alert in numbers.
-pub fn host_alert(a: CodedAlert) -> HostAlert
-    ensures { result ≡ host_alert a }
-{
-    let alert = a.alert;
-    let payload_hash = alert.payload_hash;
-    let severity = alert.severity;
-    let code = a.code;
-    HostAlert {
-        id: alert.id,
-        timestamp_us: alert.timestamp_us,
-        payload_hash: payload_hash,
-        source_id: alert.source_id,
-        severity: severity.number(),
-        source_type: alert.source_type,
-        code: code.code(),
+impl From<CodedAlert> for HostAlert {
+    ghost from_gives = { λ a r. r ≡ host_alert a };
+
+    fn from(a: CodedAlert) -> HostAlert {
+        let alert = a.alert;
+        let payload_hash = alert.payload_hash;
+        HostAlert {
+            id: alert.id,
+            timestamp_us: alert.timestamp_us,
+            payload_hash,
+            source_id: alert.source_id,
+            severity: alert.severity.number(),
+            source_type: alert.source_type,
+            code: a.code.code(),
+        }
     }
 }
 
 // A result in numbers.
-pub fn host_result(found: InspectResult) -> HostResult
-    ensures { result ≡ host_result found }
-{
-    let first = found.alerts[0];
-    let second = found.alerts[1];
-    let third = found.alerts[2];
-    let fourth = found.alerts[3];
-    let alerts = [
-        host_alert(first),
-        host_alert(second),
-        host_alert(third),
-        host_alert(fourth),
-    ];
-    HostResult {
-        allowed: flag_number(found.allowed),
-        alert_count: found.alert_count,
-        source_type: found.source_type,
-        alerts_truncated: flag_number(found.alerts_truncated),
-        alerts: alerts,
+impl From<InspectResult> for HostResult {
+    ghost from_gives = { λ found r. r ≡ host_result found };
+
+    fn from(found: InspectResult) -> HostResult {
+        let alerts = found.alerts.map(HostAlert::from);
+        HostResult {
+            allowed: u8::from(found.allowed),
+            alert_count: found.alert_count,
+            source_type: found.source_type,
+            alerts_truncated: u8::from(found.alerts_truncated),
+            alerts,
+        }
     }
 }
 
@@ -138,24 +131,20 @@ fn clean_result(source_type: u8) -> HostResult
         payload_hash: [0; 32],
         source_id: 0,
         severity: 0,
-        source_type: source_type,
+        source_type,
         code: 0,
     };
     HostResult {
         allowed: 1,
         alert_count: 0,
-        source_type: source_type,
+        source_type,
         alerts_truncated: 0,
         alerts: [none; 4],
     }
 }
 
 // The result in numbers that reports what the checks found, in a monitor. Most frames have no alert: their result is made in numbers at once.
-pub fn host_report(
-    m: &mut [u64; WORDS],
-    alerts: CheckAlerts,
-    source: AlertSource,
-) -> HostResult
+pub fn host_report(m: &mut [u64; WORDS], alerts: CheckAlerts, source: AlertSource) -> HostResult
     ensures { record { monitor = monitor_of m.new; answer = result }
         ≡ answered host_result
         (reported source.source_type source.source_id source.timestamp_us (ended (monitor_of m.old) (alerts_of alerts))) }
@@ -164,7 +153,7 @@ pub fn host_report(
         return clean_result(source.source_type);
     }
     let found = report_on(m, alerts, source);
-    host_result(found)
+    HostResult::from(found)
 }
 
 // The answer of an add call in numbers.
@@ -175,7 +164,7 @@ pub fn host_configured(c: Configured) -> HostConfigured
     let monitor = c.monitor;
     let answer = c.answer;
     HostConfigured {
-        monitor: monitor,
+        monitor,
         error: added_error(answer),
     }
 }

@@ -7,5 +7,5 @@ use Rattle.host.proofs.inspect.mokyndu_inspect_mms.Goals as goal
 
 pub returns : goal.returns
 returns c = let i = c.inspect_mms_on-result in
-    (λ k. record { monitor = monitor_of i.new.m; answer = c.host_result.ensures k })
-    ∙ ap (answered host_result) (i.ensures ∙ ap (inspect_mms _) c.mms_frame_of-request.ensures)
+    (λ k. record { monitor = monitor_of i.new.m; answer = c.from-2.ensures k })
+    ∙ ap (answered host_result) (i.ensures ∙ ap (inspect_mms _) c.from.ensures)

@@ -15,5 +15,5 @@ returns-then-none_found c = let a = c.args in
 
 pub returns : goal.returns
 returns c =
-    (λ i. record { monitor = monitor_of c.report_on-found.new.m; answer = c.host_result.ensures i })
+    (λ i. record { monitor = monitor_of c.report_on-found.new.m; answer = c.from.ensures i })
     ∙ ap (result.answered host_result) c.report_on-found.ensures
