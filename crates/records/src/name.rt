@@ -7,7 +7,7 @@ ghost use Rattle.records.specs.Name.{valid_len, padded};
 pub fn valid_len(len: u8) -> u8
     ensures { result ≡ valid_len len }
 {
-    if len < 64 { len } else { 64 }
+    len.min(64)
 }
 
 // The places of a name's octets.

@@ -16,7 +16,7 @@ pub fn octet_at(bytes: &[u8], i: usize) -> u8
 pub fn least(a: usize, b: usize) -> usize
     ensures { result ≡ min a b }
 {
-    if a < b { a } else { b }
+    a.min(b)
 }
 
 // Puts the first `n` octets from a place on, where there is room for them.
