@@ -3,6 +3,8 @@
 ghost use Rattle.std.specs.Prelude.{◌≡◌, length};
 ghost use Rattle.records.specs.Name.{valid_len, padded};
 
+use crate::octets::put_octets;
+
 // A stated length above 64 counts as 64.
 pub fn valid_len(len: u8) -> u8
     ensures { result ≡ valid_len len }
@@ -22,14 +24,9 @@ const PLACES: [u8; 64] = [
 pub fn padded(octets: &[u8; 64], len: u8) -> [u8; 64]
     ensures { result ≡ padded octets.now len }
 {
-    let places = PLACES;
-    let name = *octets;
     let mut out = [0u8; 64];
-    let mut i: usize = 0;
-    while i < 64 {
-        let octet = name[i];
-        out[i] = if places[i] < len { octet } else { 0 };
-        i += 1;
+    for i in 0..64 {
+        out[i] = if PLACES[i] < len { octets[i] } else { 0 };
     }
     out
 }
@@ -39,10 +36,6 @@ pub fn padded_octets(octets: &[u8]) -> [u8; 64]
     ensures { result ≡ padded octets.now (length octets.now) }
 {
     let mut out = [0u8; 64];
-    let mut i: usize = 0;
-    while i < 64 {
-        out[i] = if i < octets.len() { octets[i] } else { 0 };
-        i += 1;
-    }
+    put_octets(&mut out, 0, octets);
     out
 }
