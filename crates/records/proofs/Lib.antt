@@ -2,10 +2,7 @@ pub mod Booleans
 pub mod Lists
 pub mod NumberLaws
 pub mod RowLaws
-pub mod Products
 pub mod HashLaws
-pub mod BucketLaws
-pub mod ScheduleLaws
 pub mod NameLaws
 pub mod OctetLaws
 pub mod SearchLaws

@@ -1,9 +1,10 @@
 -- Laws of names: octets compared, stored and copied one by one.
-use Rattle.std.proofs.Common.{◌≡◌, ℕ, zero, suc, ◌+◌, ◌<◌, ◌≤◌, true, false, cond, eqb, ltb, List, [], ◌∷◌, ◌++◌, length, get_or, drop, set, sym, refl, ap, ◌∙◌, ⊎_elim, append_assoc, append-nil, le_of_suc-le-suc, not-suc-le-zero, eq-or-lt_of_le, zero-add, add-one, arith, length-append, length-set, drop_of_length-le, length-take-le, drop-cons, get_or-set_other, get_or-take, get_or-set_same, ext_get_or, lt-ltb, eq-eqb, ne_eqb, eqb-true}
-use native.Mathlib.Decide.{ℕ_discrete}
+use Rattle.std.proofs.Common.{◌≡◌, ℕ, zero, suc, ◌+◌, ◌<◌, ◌≤◌, true, false, cond, eqb, ltb, List, [], ◌∷◌, ◌++◌, length, get_or, drop, set, replicate, sym, refl, ap, ◌∙◌, ⊎_elim, append_assoc, append-nil, le_of_suc-le-suc, not-suc-le-zero, eq-or-lt_of_le, zero-add, add-one, arith, length-append, length-set, drop_of_length-le, length-take-le, take-append-drop, take, length-drop, drop-cons, get_or-set_other, get_or-take, get_or-set_same, ext_get_or, le-ltb, lt-ltb, eq-eqb, ne_eqb, eqb-true}
+use native.Mathlib.Decide.{ℕ_discrete, dec_lt}
 use lib.ListN.{get_or-append}
 use lib.Seq.{set_at, set_out, set-get_or, get_or_at}
-use Rattle.records.proofs.Booleans.{cond_yes, and-true, and-false, and_no, and_both}
+use Rattle.records.proofs.Booleans.{cond_yes, cond_no, and-true, and-false, and_no, and_both}
+use Rattle.records.proofs.Lists.{get_d_constant}
 use Rattle.records.specs.Name.{valid_len, name_of, padded}
 use Rattle.records.specs.Octets.{tabulate, octet_at, agree, overwritten}
 
@@ -53,17 +54,20 @@ module _ (l : List ℕ) (f : ℕ → ℕ) where
   unfolding overwritten
   overwritten_none start m h = overwritten_past start 0 m (omega arith) (omega arith)
 
-  -- from the first place on, as far as the list goes
-  overwritten_front : (n : ℕ) → n ≤ length l → overwritten l 0 f n ≡ tabulate f n ++ drop n l
+  -- the list in front of the places, what is written there, and the list behind them
+  overwritten_parts : (start n : ℕ) → start + n ≤ length l → overwritten l start f n ≡ take start l ++ (tabulate f n ++ drop n (drop start l))
   unfolding overwritten tabulate
-  overwritten_front zero h = refl
-  overwritten_front (suc n) h =
-      rw (zero-add, overwritten_front n (omega arith), drop-cons l n 0)
-      (set_at (tabulate f n) _ (drop (suc n) l) (f n) n (length_tabulate f n) ∙ sym (append_assoc (tabulate f n) (f n ∷ []) (drop (suc n) l)))
+  overwritten_parts start zero h = sym (take-append-drop start l)
+  overwritten_parts start (suc n) h =
+      let room : n < length (drop start l) = simp length-drop (omega arith) in
+      rw (overwritten_parts start n (omega arith), drop-cons (drop start l) n 0 room, ← append_assoc)
+      (set_at (take start l ++ tabulate f n) _ (drop (suc n) (drop start l)) (f n) (start + n)
+      (simp (length-append, length_tabulate) (omega (arith, length-take-le start l (omega arith))))
+      ∙ simp append_assoc)
 
   pub overwritten_whole : (n : ℕ) → length l ≡ n → overwritten l 0 f n ≡ tabulate f n
   overwritten_whole n h =
-      overwritten_front n (omega arith)
+      overwritten_parts 0 n (omega arith)
       ∙ ap (λ (r : List ℕ). tabulate f n ++ r) (drop_of_length-le l {i = n} (omega arith))
       ∙ append-nil (tabulate f n)
 
@@ -140,6 +144,34 @@ name_padded name h =
     get_or-take (valid_len (length name)) (padded name (length name)) k 0 (omega arith)
     ∙ padded_at name (length name) k (omega arith)
     ∙ cond_yes _ _ (lt-ltb k (length name) m))
+
+-- octets copied in one go
+tabulate_octets : (l : List ℕ) (n : ℕ) → n ≤ length l → tabulate (octet_at l) n ≡ take n l
+tabulate_octets l n h =
+    ext_get_or 0 _ (take n l) (length_tabulate (octet_at l) n ∙ sym (length-take-le n l h)) (λ k m.
+    let i : k < n = omega (arith, length_tabulate (octet_at l) n) in
+    tabulate_at (octet_at l) n k 0 i ∙ sym (get_or-take n l k 0 i))
+
+pub overwritten_copied : (l octets : List ℕ) (start n : ℕ) {k : ℕ} {copied : List ℕ} → k ≡ n → copied ≡ take n octets
+    → n ≤ length octets → start + n ≤ length l
+    → take start l ++ (copied ++ drop k (drop start l)) ≡ overwritten l start (octet_at octets) n
+overwritten_copied l octets start n e p h m =
+    rw (e, p, ← tabulate_octets octets n h) (sym (overwritten_parts l (octet_at octets) start n m))
+
+-- a name put over zeros
+padded_put_at : (octets : List ℕ) (k : ℕ) → k < 64 → Dec (k < length octets)
+    → octet_at (overwritten (replicate 64 0) 0 (octet_at octets) (length octets)) k ≡ octet_at (padded octets (length octets)) k
+padded_put_at octets k h (yes l) =
+    rw zero-add at (overwritten_in (replicate 64 0) 0 (octet_at octets) (length octets) k l (omega arith))
+    ∙ sym (padded_at octets (length octets) k h ∙ cond_yes _ _ (lt-ltb k (length octets) l))
+padded_put_at octets k h (no l) =
+    overwritten_out (replicate 64 0) 0 (octet_at octets) (length octets) k (λ j i e. l (omega arith))
+    ∙ get_d_constant 64 k 0
+    ∙ sym (padded_at octets (length octets) k h ∙ cond_no _ _ (le-ltb k (length octets) (omega arith)))
+
+pub padded_put : (octets : List ℕ) → overwritten (replicate 64 0) 0 (octet_at octets) (length octets) ≡ padded octets (length octets)
+padded_put octets = let size = length_overwritten (replicate 64 0) (octet_at octets) 0 (length octets) in
+    ext_get_or 0 _ _ (size ∙ sym (length_padded octets (length octets))) (λ k h. padded_put_at octets k (omega (arith, size)) (dec_lt k (length octets)))
 
 -- what a slot holds is the same when it is stored again
 pub overwritten_again : (l : List ℕ) (start : ℕ) (f : ℕ → ℕ) (n : ℕ) → ((k : ℕ) → k < n → octet_at l (start + k) ≡ f k) → overwritten l start f n ≡ l

@@ -1,15 +1,15 @@
 // Carried over from core/types/src/lib.rs and industrial/types-ind/src/lib.rs of craton-shield a31d888527 (Apache-2.0) and
-// changed: the numbers are functions, and a code stands in one struct with its alert.
+// changed: the numbers have functions, and a code stands in one struct with its alert.
 ghost use Rattle.std.specs.Prelude.{◌≡◌};
 ghost use Rattle.records.specs.Alert.{severity_number, denies, code_number, alert_of, no_alert};
 
-#[derive(Clone, Copy)]
+#[derive(Clone, Copy, PartialEq, Eq)]
 pub enum AlertSeverity {
-    Info,
-    Low,
-    Medium,
-    High,
-    Critical,
+    Info = 0,
+    Low = 1,
+    Medium = 2,
+    High = 3,
+    Critical = 4,
 }
 
 impl AlertSeverity {
@@ -17,69 +17,64 @@ impl AlertSeverity {
     pub fn number(self) -> u8
         ensures { result ≡ severity_number self }
     {
-        match self {
-            AlertSeverity::Info => 0,
-            AlertSeverity::Low => 1,
-            AlertSeverity::Medium => 2,
-            AlertSeverity::High => 3,
-            AlertSeverity::Critical => 4,
-        }
+        self as u8
     }
 
     // Whether an alert of this severity clears a result's allowed flag.
+    #[tactic(auto, unfolding(crate::specs::Alert::denies))]
     pub fn denies(self) -> bool
         ensures { result ≡ denies self }
     {
-        self.number() >= 3
+        matches!(self, AlertSeverity::High | AlertSeverity::Critical)
     }
 }
 
 // What an alert is about.
-#[derive(Clone, Copy)]
+#[derive(Clone, Copy, PartialEq, Eq)]
 pub enum AlertCode {
-    Unspecified,
-    CrcFailure,
-    WriteProtection,
-    ReplayDetected,
-    RateExceeded,
-    FloodAbuse,
-    PolicyViolation,
-    UnknownFunctionCode,
-    DiagnosticBlocked,
-    EndpointBlocked,
-    SecurityModeViolation,
-    SessionAnomaly,
-    AlarmFlood,
-    SequenceAnomaly,
-    PayloadOverflow,
-    InvalidProtocol,
-    NoMatchingRule,
-    MessageTypeBlocked,
-    ProviderStateChange,
-    DcpBlocked,
-    MessageSizeExceeded,
-    AddressViolation,
-    UnknownSession,
-    ResourceExhausted,
-    ObjectAccessDenied,
-    CipServiceBlocked,
-    SvReplay,
-    SvRateAnomaly,
-    IedMismatch,
-    CbHijack,
-    RetransmissionAnomaly,
-    TimeSyncSpoofing,
-    ClockRegression,
-    UnitNotAllowed,
-    InvalidUnitId,
-    TxIdReplay,
-    BadLinkCrc,
-    TransportSeqAnomaly,
-    SaDowngrade,
-    IinFlagSpoofing,
-    ForeignDevice,
-    NpduLoop,
-    BroadcastFlood,
+    Unspecified = 0,
+    CrcFailure = 1,
+    WriteProtection = 2,
+    ReplayDetected = 3,
+    RateExceeded = 4,
+    FloodAbuse = 5,
+    PolicyViolation = 6,
+    UnknownFunctionCode = 7,
+    DiagnosticBlocked = 8,
+    EndpointBlocked = 9,
+    SecurityModeViolation = 10,
+    SessionAnomaly = 11,
+    AlarmFlood = 12,
+    SequenceAnomaly = 13,
+    PayloadOverflow = 14,
+    InvalidProtocol = 15,
+    NoMatchingRule = 16,
+    MessageTypeBlocked = 17,
+    ProviderStateChange = 18,
+    DcpBlocked = 19,
+    MessageSizeExceeded = 20,
+    AddressViolation = 21,
+    UnknownSession = 22,
+    ResourceExhausted = 23,
+    ObjectAccessDenied = 24,
+    CipServiceBlocked = 25,
+    SvReplay = 26,
+    SvRateAnomaly = 27,
+    IedMismatch = 28,
+    CbHijack = 29,
+    RetransmissionAnomaly = 30,
+    TimeSyncSpoofing = 31,
+    ClockRegression = 32,
+    UnitNotAllowed = 33,
+    InvalidUnitId = 34,
+    TxIdReplay = 35,
+    BadLinkCrc = 36,
+    TransportSeqAnomaly = 37,
+    SaDowngrade = 38,
+    IinFlagSpoofing = 39,
+    ForeignDevice = 40,
+    NpduLoop = 41,
+    BroadcastFlood = 42,
 }
 
 impl AlertCode {
@@ -87,51 +82,7 @@ impl AlertCode {
     pub fn code(self) -> u8
         ensures { result ≡ code_number self }
     {
-        match self {
-            AlertCode::Unspecified => 0,
-            AlertCode::CrcFailure => 1,
-            AlertCode::WriteProtection => 2,
-            AlertCode::ReplayDetected => 3,
-            AlertCode::RateExceeded => 4,
-            AlertCode::FloodAbuse => 5,
-            AlertCode::PolicyViolation => 6,
-            AlertCode::UnknownFunctionCode => 7,
-            AlertCode::DiagnosticBlocked => 8,
-            AlertCode::EndpointBlocked => 9,
-            AlertCode::SecurityModeViolation => 10,
-            AlertCode::SessionAnomaly => 11,
-            AlertCode::AlarmFlood => 12,
-            AlertCode::SequenceAnomaly => 13,
-            AlertCode::PayloadOverflow => 14,
-            AlertCode::InvalidProtocol => 15,
-            AlertCode::NoMatchingRule => 16,
-            AlertCode::MessageTypeBlocked => 17,
-            AlertCode::ProviderStateChange => 18,
-            AlertCode::DcpBlocked => 19,
-            AlertCode::MessageSizeExceeded => 20,
-            AlertCode::AddressViolation => 21,
-            AlertCode::UnknownSession => 22,
-            AlertCode::ResourceExhausted => 23,
-            AlertCode::ObjectAccessDenied => 24,
-            AlertCode::CipServiceBlocked => 25,
-            AlertCode::SvReplay => 26,
-            AlertCode::SvRateAnomaly => 27,
-            AlertCode::IedMismatch => 28,
-            AlertCode::CbHijack => 29,
-            AlertCode::RetransmissionAnomaly => 30,
-            AlertCode::TimeSyncSpoofing => 31,
-            AlertCode::ClockRegression => 32,
-            AlertCode::UnitNotAllowed => 33,
-            AlertCode::InvalidUnitId => 34,
-            AlertCode::TxIdReplay => 35,
-            AlertCode::BadLinkCrc => 36,
-            AlertCode::TransportSeqAnomaly => 37,
-            AlertCode::SaDowngrade => 38,
-            AlertCode::IinFlagSpoofing => 39,
-            AlertCode::ForeignDevice => 40,
-            AlertCode::NpduLoop => 41,
-            AlertCode::BroadcastFlood => 42,
-        }
+        self as u8
     }
 }
 
@@ -162,6 +113,7 @@ pub struct CodedAlert {
 
 impl CodedAlert {
     // An alert with a zero hash.
+    #[tactic(auto, unfolding(crate::specs::Alert::alert_of))]
     pub fn new(
         id: u64,
         severity: AlertSeverity,
@@ -174,18 +126,19 @@ impl CodedAlert {
     {
         CodedAlert {
             alert: SecurityAlert {
-                id: id,
+                id,
                 timestamp_us: ts_us,
                 payload_hash: [0; 32],
-                severity: severity,
-                source_id: source_id,
-                source_type: source_type,
+                severity,
+                source_id,
+                source_type,
             },
-            code: code,
+            code,
         }
     }
 
     // What stands in a slot that holds no alert.
+    #[tactic(auto, unfolding(crate::specs::Alert::no_alert))]
     pub fn none(source_type: u8) -> Self
         ensures { result ≡ no_alert source_type }
     {

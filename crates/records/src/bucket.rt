@@ -11,7 +11,7 @@ pub struct RateBucket {
     pub last_refill_us: u64,
 }
 
-// A bucket after a call, and whether the call was allowed.
+// A bucket after a call, and whether the call was allowed: both are always there, so an Option would not be plainer.
 #[derive(Clone, Copy)]
 pub struct BucketCall {
     pub bucket: RateBucket,
@@ -19,66 +19,60 @@ pub struct BucketCall {
 }
 
 // The tokens that a time brings, the most where the product passes 64 bits.
+#[tactic(auto, unfolding(crate::specs::Bucket::refill))]
 pub fn refill(elapsed_us: u64, capacity: u16) -> u64
     ensures { result ≡ refill elapsed_us capacity }
 {
-    let per_second = capacity as u64;
-    if per_second == 0 {
-        return 0;
-    }
-    if 0xffff_ffff_ffff_ffff / per_second < elapsed_us {
-        return 0xffff_ffff_ffff_ffff;
-    }
-    elapsed_us * per_second / 1_000_000
+    elapsed_us
+        .checked_mul(u64::from(capacity))
+        .map_or(u64::MAX, |product| product / 1_000_000)
 }
 
 // The tokens after a refill, capacity at most.
 pub fn tokens_with(tokens: u16, added: u64, capacity: u16) -> u16
     ensures { result ≡ tokens_with tokens added capacity }
 {
-    let most = capacity as u64;
-    if most <= added {
-        return capacity;
-    }
-    let sum = (tokens as u64) + added;
-    if most <= sum {
-        return capacity;
-    }
-    sum as u16
+    u64::from(tokens)
+        .saturating_add(added)
+        .min(u64::from(capacity)) as u16
 }
 
 impl RateBucket {
     // After refilling at a time.
+    #[tactic(auto, unfolding(crate::specs::Bucket::refilled, crate::specs::Bucket::refilled_by))]
     pub fn refilled(self, now_us: u64) -> Self
         ensures { result ≡ refilled self now_us }
     {
-        let mut out = self;
         if now_us < self.last_refill_us {
-            out.tokens = self.capacity;
-            out.last_refill_us = now_us;
-            return out;
+            return RateBucket {
+                tokens: self.capacity,
+                last_refill_us: now_us,
+                ..self
+            };
         }
-        let more = refill(now_us - self.last_refill_us, self.capacity);
-        if more == 0 {
+        let added = refill(now_us - self.last_refill_us, self.capacity);
+        if added == 0 {
             return self;
         }
-        out.tokens = tokens_with(self.tokens, more, self.capacity);
-        out.last_refill_us = now_us;
-        out
+        RateBucket {
+            tokens: tokens_with(self.tokens, added, self.capacity),
+            last_refill_us: now_us,
+            ..self
+        }
     }
 
     // A call at a time: the bucket is refilled, and the call takes a token if there is one.
+    #[tactic(auto, unfolding(crate::specs::Bucket::next_call))]
     pub fn next_call(self, now_us: u64) -> BucketCall
         ensures { result ≡ next_call self now_us }
     {
-        let mut bucket = self.refilled(now_us);
-        let allowed = bucket.tokens > 0;
-        if allowed {
-            bucket.tokens = bucket.tokens - 1;
-        }
+        let bucket = self.refilled(now_us);
         BucketCall {
-            bucket: bucket,
-            allowed: allowed,
+            bucket: RateBucket {
+                tokens: bucket.tokens.saturating_sub(1),
+                ..bucket
+            },
+            allowed: bucket.tokens > 0,
         }
     }
 
@@ -86,8 +80,7 @@ impl RateBucket {
     pub fn try_consume(&mut self, now_us: u64) -> bool
         ensures { record { bucket = self.new; allowed = result } ≡ next_call self.old now_us }
     {
-        let kept = *self;
-        let call = kept.next_call(now_us);
+        let call = self.next_call(now_us);
         *self = call.bucket;
         call.allowed
     }
@@ -96,10 +89,9 @@ impl RateBucket {
     pub fn first_call(capacity: u16, now_us: u64) -> Self
         ensures { result ≡ first_call capacity now_us }
     {
-        let left = if capacity > 0 { capacity - 1 } else { 0 };
         RateBucket {
-            tokens: left,
-            capacity: capacity,
+            tokens: capacity.saturating_sub(1),
+            capacity,
             last_refill_us: now_us,
         }
     }

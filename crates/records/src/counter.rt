@@ -6,15 +6,12 @@ ghost use Rattle.records.specs.Counter.{saturated, wrapped};
 pub fn saturating_increment(x: u64) -> u64
     ensures { result ≡ saturated x }
 {
-    if x == 0xffff_ffff_ffff_ffff {
-        return x;
-    }
-    x + 1
+    x.saturating_add(1)
 }
 
 // One more, modulo 2^64.
 pub fn wrapping_increment(x: u64) -> u64
     ensures { result ≡ wrapped x }
 {
-    std::num::wrapping_add_u64(x, 1)
+    x.wrapping_add(1)
 }

@@ -1,25 +1,25 @@
-// Carried over from core/types/src/lib.rs of craton-shield a31d888527 (Apache-2.0) and changed: the number is a function.
+// Carried over from core/types/src/lib.rs of craton-shield a31d888527 (Apache-2.0) and changed: the number has a function.
 // The errors that an entry answers with.
 ghost use Rattle.std.specs.Prelude.{◌≡◌};
 ghost use Rattle.records.specs.Error.{error_number};
 
-#[derive(Clone, Copy)]
+#[derive(Clone, Copy, PartialEq, Eq)]
 pub enum VsError {
-    CryptoError,
-    BusError,
-    PolicyViolation,
-    IntegrityFailure,
-    AuthenticationFailure,
-    Timeout,
-    ResourceExhausted,
-    NotInitialized,
-    StorageError,
-    InvalidInput,
-    InvalidConfig,
-    NotFound,
-    OverlappingRegion,
-    KeyExpired,
-    KeyRevoked,
+    CryptoError = 0,
+    BusError = 1,
+    PolicyViolation = 2,
+    IntegrityFailure = 3,
+    AuthenticationFailure = 4,
+    Timeout = 5,
+    ResourceExhausted = 6,
+    NotInitialized = 7,
+    StorageError = 8,
+    InvalidInput = 9,
+    InvalidConfig = 10,
+    NotFound = 11,
+    OverlappingRegion = 12,
+    KeyExpired = 13,
+    KeyRevoked = 14,
 }
 
 impl VsError {
@@ -27,22 +27,6 @@ impl VsError {
     pub fn number(self) -> u8
         ensures { result ≡ error_number self }
     {
-        match self {
-            VsError::CryptoError => 0,
-            VsError::BusError => 1,
-            VsError::PolicyViolation => 2,
-            VsError::IntegrityFailure => 3,
-            VsError::AuthenticationFailure => 4,
-            VsError::Timeout => 5,
-            VsError::ResourceExhausted => 6,
-            VsError::NotInitialized => 7,
-            VsError::StorageError => 8,
-            VsError::InvalidInput => 9,
-            VsError::InvalidConfig => 10,
-            VsError::NotFound => 11,
-            VsError::OverlappingRegion => 12,
-            VsError::KeyExpired => 13,
-            VsError::KeyRevoked => 14,
-        }
+        self as u8
     }
 }

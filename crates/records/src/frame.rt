@@ -1,5 +1,5 @@
 // Carried over from industrial/iec61850-monitor/src/lib.rs and industrial/types-ind/src/lib.rs of craton-shield a31d888527
-// (Apache-2.0) and changed: the defaults are functions with a contract.
+// (Apache-2.0) and changed: `is_default` says what each default is.
 ghost use Rattle.std.specs.Prelude.{◌≡◌};
 ghost use Rattle.records.specs.Frame.{default_mms, default_goose, default_sv};
 
@@ -52,10 +52,10 @@ pub struct SvFrame {
     pub t_fraction_of_second: u32,
 }
 
-impl MmsFrame {
-    pub fn default() -> Self
-        ensures { result ≡ default_mms }
-    {
+impl Default for MmsFrame {
+    ghost is_default = { λ frame. frame ≡ default_mms };
+
+    fn default() -> Self {
         MmsFrame {
             service_type: MmsServiceType::Read,
             raw_service_type: 1,
@@ -69,10 +69,10 @@ impl MmsFrame {
     }
 }
 
-impl GooseFrame {
-    pub fn default() -> Self
-        ensures { result ≡ default_goose }
-    {
+impl Default for GooseFrame {
+    ghost is_default = { λ frame. frame ≡ default_goose };
+
+    fn default() -> Self {
         GooseFrame {
             src_mac: [0; 6],
             go_cb_ref: [0; 64],
@@ -87,10 +87,10 @@ impl GooseFrame {
     }
 }
 
-impl SvFrame {
-    pub fn default() -> Self
-        ensures { result ≡ default_sv }
-    {
+impl Default for SvFrame {
+    ghost is_default = { λ frame. frame ≡ default_sv };
+
+    fn default() -> Self {
         SvFrame {
             src_mac: [0; 6],
             svid_len: 0,

@@ -4,7 +4,6 @@ ghost use Rattle.std.specs.Prelude.{◌≡◌};
 ghost use Rattle.records.specs.Result.{clean_result, allowed_with, pushed};
 
 use crate::alert::{AlertCode, AlertSeverity, CodedAlert};
-use crate::counter::{saturating_increment, wrapping_increment};
 
 // The verdict on one frame, with up to four alerts.
 #[derive(Clone, Copy)]
@@ -24,7 +23,7 @@ pub struct AlertCounters {
     pub total_alerts: u64,
 }
 
-// A result and the counters after an alert.
+// A result and the counters after an alert: both are always there, so an Option would not be plainer.
 #[derive(Clone, Copy)]
 pub struct Pushed {
     pub result: InspectResult,
@@ -32,28 +31,30 @@ pub struct Pushed {
 }
 
 // Whether a frame is still allowed after an alert.
+#[tactic(auto, unfolding(crate::specs::Result::allowed_with))]
 pub fn allowed_with(allowed: bool, severity: AlertSeverity) -> bool
     ensures { result ≡ allowed_with allowed severity }
 {
-    if severity.denies() { false } else { allowed }
+    allowed && !severity.denies()
 }
 
 impl InspectResult {
     // Allowed, with no alert.
+    #[tactic(auto, unfolding(crate::specs::Result::clean_result))]
     pub fn clean(source_type: u8) -> Self
         ensures { result ≡ clean_result source_type }
     {
-        let none = CodedAlert::none(source_type);
         InspectResult {
             allowed: true,
             alert_count: 0,
-            source_type: source_type,
-            alerts: [none; 4],
+            source_type,
+            alerts: [CodedAlert::none(source_type); 4],
             alerts_truncated: false,
         }
     }
 
     // Adds an alert under the next number. High and Critical deny, also where the four slots are taken and the alert is dropped.
+    #[tactic(auto, unfolding(crate::specs::Result::pushed, crate::specs::Result::with_alert, crate::specs::Result::truncated, crate::specs::Result::counted))]
     pub fn push_alert_with_code(
         self,
         counters: AlertCounters,
@@ -72,17 +73,17 @@ impl InspectResult {
             out.alerts_truncated = true;
             return Pushed {
                 result: out,
-                counters: counters,
+                counters,
             };
         }
         let id = counters.next_alert_id;
         out.alerts[slot] = CodedAlert::new(id, severity, source_type, source_id, ts_us, code);
-        out.alert_count = self.alert_count + 1;
+        out.alert_count += 1;
         Pushed {
             result: out,
             counters: AlertCounters {
-                next_alert_id: wrapping_increment(id),
-                total_alerts: saturating_increment(counters.total_alerts),
+                next_alert_id: id.wrapping_add(1),
+                total_alerts: counters.total_alerts.saturating_add(1),
             },
         }
     }

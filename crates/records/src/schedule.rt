@@ -1,6 +1,6 @@
 // Carried over from industrial/iec61850-monitor/src/lib.rs of craton-shield a31d888527 (Apache-2.0) and changed: no operation
 // that could saturate is left.
-ghost use Rattle.std.specs.Prelude.{◌≡◌, min};
+ghost use Rattle.std.specs.Prelude.{◌≡◌};
 ghost use Rattle.records.specs.Schedule.{default_schedule, expected_interval, within_tolerance};
 
 // The schedule by which a GOOSE publisher repeats an unchanged state (IEC 61850-8-1).
@@ -10,13 +10,6 @@ pub struct RetxSchedule {
     pub initial_us: u32,
     pub t_max_us: u32,
     pub tolerance_pct: u8,
-}
-
-// The smaller of two numbers.
-fn least(a: u32, b: u32) -> u32
-    ensures { result ≡ min a b }
-{
-    if a < b { a } else { b }
 }
 
 impl RetxSchedule {
@@ -32,27 +25,20 @@ impl RetxSchedule {
     }
 
     // The interval before the frame of sqNum n.
+    #[tactic(auto, unfolding(crate::specs::Schedule::expected_interval))]
     pub fn expected_interval_us(self, n: u32) -> u32
         ensures { result ≡ expected_interval self n }
     {
-        let scaled = (self.initial_us as u64) << least(n, 31);
-        let most = self.t_max_us as u64;
-        if scaled < most {
-            return scaled as u32;
-        }
-        self.t_max_us
+        let scaled = u64::from(self.initial_us) << n.min(31);
+        scaled.min(u64::from(self.t_max_us)) as u32
     }
 
     // Whether an observed interval is near enough to the expected one.
+    #[tactic(auto, unfolding(crate::specs::Schedule::within_tolerance))]
     pub fn within_tolerance(self, observed_us: u32, expected_us: u32) -> bool
         ensures { result ≡ within_tolerance self observed_us expected_us }
     {
-        let observed = observed_us as u64;
-        let expected = expected_us as u64;
-        let tolerance = expected * (self.tolerance_pct as u64) / 100;
-        if observed < expected {
-            return expected - observed <= tolerance;
-        }
-        observed - expected <= tolerance
+        let tolerance = u64::from(expected_us) * u64::from(self.tolerance_pct) / 100;
+        u64::from(observed_us.abs_diff(expected_us)) <= tolerance
     }
 }

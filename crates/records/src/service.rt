@@ -1,24 +1,24 @@
-// Carried over from industrial/iec61850-monitor/src/lib.rs of craton-shield a31d888527 (Apache-2.0) and changed: the number is
+// Carried over from industrial/iec61850-monitor/src/lib.rs of craton-shield a31d888527 (Apache-2.0) and changed: the number has
 // a function.
 ghost use Rattle.std.specs.Prelude.{◌≡◌};
 ghost use Rattle.records.specs.Service.{service_number, service_of, is_write};
 
 // The MMS services (ISO 9506) that the monitor tells apart.
-#[derive(Clone, Copy)]
+#[derive(Clone, Copy, PartialEq, Eq)]
 pub enum MmsServiceType {
-    Read,
-    Write,
-    GetNameList,
-    GetVariableAccessAttributes,
-    DefineNamedVariable,
-    DeleteNamedVariable,
-    GetDataValues,
-    SetDataValues,
-    Initiate,
-    Conclude,
-    SelectControl,
-    CancelControl,
-    Unknown,
+    Read = 1,
+    Write = 2,
+    GetNameList = 3,
+    GetVariableAccessAttributes = 4,
+    DefineNamedVariable = 5,
+    DeleteNamedVariable = 6,
+    GetDataValues = 7,
+    SetDataValues = 8,
+    Initiate = 9,
+    Conclude = 10,
+    SelectControl = 11,
+    CancelControl = 12,
+    Unknown = 255,
 }
 
 impl MmsServiceType {
@@ -26,63 +26,42 @@ impl MmsServiceType {
     pub fn number(self) -> u8
         ensures { result ≡ service_number self }
     {
-        match self {
-            MmsServiceType::Read => 1,
-            MmsServiceType::Write => 2,
-            MmsServiceType::GetNameList => 3,
-            MmsServiceType::GetVariableAccessAttributes => 4,
-            MmsServiceType::DefineNamedVariable => 5,
-            MmsServiceType::DeleteNamedVariable => 6,
-            MmsServiceType::GetDataValues => 7,
-            MmsServiceType::SetDataValues => 8,
-            MmsServiceType::Initiate => 9,
-            MmsServiceType::Conclude => 10,
-            MmsServiceType::SelectControl => 11,
-            MmsServiceType::CancelControl => 12,
-            MmsServiceType::Unknown => 255,
-        }
+        self as u8
     }
 
     // The service of a raw number.
+    #[tactic(auto, unfolding(crate::specs::Service::service_of))]
     pub fn from_u8(v: u8) -> Self
         ensures { result ≡ service_of v }
     {
-        let services = [
-            MmsServiceType::Unknown,
-            MmsServiceType::Read,
-            MmsServiceType::Write,
-            MmsServiceType::GetNameList,
-            MmsServiceType::GetVariableAccessAttributes,
-            MmsServiceType::DefineNamedVariable,
-            MmsServiceType::DeleteNamedVariable,
-            MmsServiceType::GetDataValues,
-            MmsServiceType::SetDataValues,
-            MmsServiceType::Initiate,
-            MmsServiceType::Conclude,
-            MmsServiceType::SelectControl,
-            MmsServiceType::CancelControl,
-        ];
-        let i = v as usize;
-        if i >= 13 {
-            return MmsServiceType::Unknown;
+        match v {
+            1 => MmsServiceType::Read,
+            2 => MmsServiceType::Write,
+            3 => MmsServiceType::GetNameList,
+            4 => MmsServiceType::GetVariableAccessAttributes,
+            5 => MmsServiceType::DefineNamedVariable,
+            6 => MmsServiceType::DeleteNamedVariable,
+            7 => MmsServiceType::GetDataValues,
+            8 => MmsServiceType::SetDataValues,
+            9 => MmsServiceType::Initiate,
+            10 => MmsServiceType::Conclude,
+            11 => MmsServiceType::SelectControl,
+            12 => MmsServiceType::CancelControl,
+            _ => MmsServiceType::Unknown,
         }
-        services[i]
     }
 
     // Whether the service changes the substation's state.
+    #[tactic(auto, unfolding(crate::specs::Service::is_write))]
     pub fn is_write(self) -> bool
         ensures { result ≡ is_write self }
     {
-        let n = self.number();
-        if n == 2 {
-            return true;
-        }
-        if n == 5 {
-            return true;
-        }
-        if n == 6 {
-            return true;
-        }
-        n == 8
+        matches!(
+            self,
+            MmsServiceType::Write
+                | MmsServiceType::DefineNamedVariable
+                | MmsServiceType::DeleteNamedVariable
+                | MmsServiceType::SetDataValues
+        )
     }
 }

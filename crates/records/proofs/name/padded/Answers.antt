@@ -5,7 +5,7 @@ use Rattle.records.specs.Octets.{tabulate, overwritten}
 use Rattle.records.proofs.Booleans.{cond_yes, cond_no}
 use Rattle.records.proofs.NameLaws.{tabulate_at, overwritten_more, overwritten_whole}
 use Rattle.records.proofs.name.padded.Goals as goal
-use Rattle.records.proofs.name.padded.Goals.{then-places-i, else-places-i}
+use Rattle.records.proofs.name.padded.Goals.{then-i-len, else-i-len}
 
 -- a place of the table is its own number
 abbrev places : List ℕ
@@ -23,21 +23,19 @@ place_at_lem i h = ap (λ (l : List ℕ). get_or l i 0) places-counted ∙ tabul
 
 pub loop-i-init : goal.loop-i-init
 unfolding overwritten
-loop-i-init c = (omega arith, refl)
+loop-i-init c = refl
 
 pub loop-i-preserved : goal.loop-i-preserved
 loop-i-preserved c = let l = c.loop-i in
-    let e = place_at_lem l.i (omega arith) in (
-      omega arith,
-      overwritten_more (replicate 64 0) _ 0 l.i l.invariant.1 (omega arith)
-          (elim c.if-places-i.branch [
-            | then-places-i w ↦ w.out-is ∙ sym (cond_yes _ _ (lt-ltb _ _ (rw e at w.if-places-i.true)))
-            | else-places-i w ↦ w.out-is ∙ sym (cond_no _ _ (le-ltb _ _ (rw e at w.if-places-i.false)))
-          ]),
-    )
+    let e = place_at_lem l.i (omega arith) in
+    overwritten_more (replicate 64 0) _ 0 l.i l.invariant (omega arith)
+    (elim c.if-i-len.branch [
+      | then-i-len w ↦ w.out-is ∙ sym (cond_yes _ _ (lt-ltb _ _ (rw e at w.if-i-len.true)))
+      | else-i-len w ↦ w.out-is ∙ sym (cond_no _ _ (le-ltb _ _ (rw e at w.if-i-len.false)))
+    ])
 
 pub returns : goal.returns
 unfolding padded
 returns c = let l = c.loop-i in
     let e : l.i ≡ 64 = omega arith in
-    (rw e at l.invariant.1) ∙ overwritten_whole (replicate 64 0) _ 64 refl
+    (rw e at l.invariant) ∙ overwritten_whole (replicate 64 0) _ 64 refl
