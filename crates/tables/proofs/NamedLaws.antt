@@ -1,30 +1,12 @@
--- Laws of tables by name: words compared and stored at once, and the ways that a comparison of keys goes.
-use Rattle.std.proofs.Common.{◌≡◌, ℕ, ◌+◌, ◌-◌, ◌*◌, ◌<◌, ◌≤◌, Bool, true, false, eqb, List, ◌++◌, length, get_or, take, drop, sym, refl, ap, ◌∙◌, true≢false, arith, length-append, length-drop, length-take-le, get_or-append-add, get_or-drop, get_or-take, ext_get_or, le-ltb, lt-ltb, eq-eqb, ne_eqb}
+-- Laws of tables by name: words stored at once, and the ways that a comparison of keys goes.
+use Rattle.std.proofs.Common.{◌≡◌, ℕ, ◌+◌, ◌-◌, ◌*◌, ◌<◌, ◌≤◌, Bool, false, List, ◌++◌, length, get_or, take, drop, sym, ap, ◌∙◌, arith, length-append, length-drop, length-take-le, get_or-append-add, get_or-drop, get_or-take, ext_get_or, le-ltb, lt-ltb, eq-eqb, ne_eqb}
 use native.Mathlib.Decide.{dec_lt}
 use borrow.Rule.Slice.PartMut.{put_mid}
 use lib.ListN.{get_or-append}
-use lib.Pointwise.{pointwise, bytes_decides}
 use Rattle.records.proofs.Booleans.{and_yes, and_no}
-use Rattle.records.proofs.NameLaws.{agree_at, agree_all, length_overwritten, overwritten_in, overwritten_out}
+use Rattle.records.proofs.NameLaws.{length_overwritten, overwritten_in, overwritten_out}
 use Rattle.records.specs.Octets.{agree, overwritten}
 use Rattle.tables.specs.Named.{has_key}
-
--- words compared at once, and each
-module _ (p q : List ℕ) (f g : ℕ → ℕ) (n : ℕ) (a : length p ≡ n) (b : length q ≡ n)
-    (e : (k : ℕ) → k < n → get_or p k 0 ≡ f k) (h : (k : ℕ) → k < n → get_or q k 0 ≡ g k) where
-  pub words_agree : pointwise eqb p q ≡ agree f g n
-  words_agree = go (pointwise eqb p q) refl (agree f g n) refl
-    where
-      go : (x : Bool) → pointwise eqb p q ≡ x → (y : Bool) → agree f g n ≡ y → pointwise eqb p q ≡ agree f g n
-      go true s true t = s ∙ sym t
-      go false s false t = s ∙ sym t
-      go true s false t =
-          let same = (bytes_decides p q).0 s in
-          let all = agree_all f g n (λ k l. sym (e k l) ∙ ap (λ (r : List ℕ). get_or r k 0) same ∙ h k l) in
-          absurd (true≢false (sym all ∙ t))
-      go false s true t =
-          let same = ext_get_or 0 p q (a ∙ sym b) (λ k l. e k (omega arith) ∙ agree_at f g n t k (omega arith) ∙ sym (h k (omega arith))) in
-          absurd (true≢false (sym ((bytes_decides p q).1 same) ∙ s))
 
 -- words stored at once, and each
 module _ (l p : List ℕ) (start n : ℕ) (f : ℕ → ℕ) (h : start + n ≤ length l) (z : length p ≡ n) (e : (k : ℕ) → k < n → get_or p k 0 ≡ f k) where

@@ -16,12 +16,17 @@ const LENGTHS: usize = 16;
 
 const NAMES: usize = 32;
 
-// Whether the eight words from a start on are those of a key's name.
+// Whether the eight words from a start on are those of a key's name. Not `==` of slices, which took 35 instructions more of 116 for a frame.
 fn has_name(t: &[u64], start: usize, key: &[u64; 10]) -> bool
     requires { start + 8 ≤ length t.now }
     ensures { result ≡ agree (λ k. slice_index t.now (start + k)) (λ k. slice_index key.now (k + 2)) 8 }
 {
-    t[start..start + 8] == key[2..]
+    for k in 0..8 {
+        if t[start + k] != key[k + 2] {
+            return false;
+        }
+    }
+    true
 }
 
 // Whether a slot has this key, in key columns from a start on; a slot of 16 or more has none.

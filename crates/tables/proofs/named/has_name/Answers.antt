@@ -1,11 +1,20 @@
--- `has_name` meets its contract.
-use Rattle.std.proofs.Common.{◌≡◌, ◌+◌, ◌-◌, get_or, ap, ◌∙◌, arith}
-use Rattle.tables.proofs.NamedLaws.{words_agree, words_from}
+-- `has_name` meets its contract. The invariant: the words passed agree.
+use Rattle.std.proofs.Common.{◌≡◌, sym, refl, ◌∙◌, arith}
+use Rattle.records.specs.Octets.{agree}
+use Rattle.records.proofs.NameLaws.{agree_more, agree_no}
 use Rattle.tables.proofs.named.has_name.Goals as goal
 
+pub loop-k-init : goal.loop-k-init
+unfolding agree
+loop-k-init c = refl
+
+pub loop-k-preserved : goal.loop-k-preserved
+loop-k-preserved c = agree_more _ _ c.loop-k.k c.if-t-start.false ∙ c.loop-k.invariant
+
+pub returns-then-t-start : goal.returns-then-t-start
+returns-then-t-start c = sym (agree_no _ _ 8 c.loop-k.k (omega arith) c.if-t-start.true)
+
 pub returns : goal.returns
-returns c = let a = c.args in
-    let n : a.start + 8 - a.start ≡ 8 = omega arith in
-    let p = words_from a.t.now a.start 8 (omega arith) in
-    let q = words_from a.key.now 2 8 (omega arith) in
-    (rw n at c.eq.ensures) ∙ words_agree _ _ _ _ 8 p.0 q.0 p.1 (λ k h. q.1 k h ∙ ap (λ i. get_or a.key.now i 0) (omega arith))
+returns c = let l = c.loop-k in
+    let e : l.k ≡ 8 = omega arith in
+    sym (rw e at l.invariant)
