@@ -32,7 +32,10 @@ fn replays(last: GooseNumbers<u64>, new: GooseNumbers<u32>) -> bool
     if state < last.st_num {
         return true;
     }
-    state == last.st_num && (new.sq_num as u64) <= last.sq_num
+    if state != last.st_num {
+        return false;
+    }
+    (new.sq_num as u64) <= last.sq_num
 }
 
 // The same if the stream is known.

@@ -42,7 +42,10 @@ fn clock_alerts(kept: Option<ClockPair<u64>>, limit: u32, pair: ClockPair<u32>) 
     if now == kept.seconds {
         return (pair.fraction as u64) < kept.fraction;
     }
-    limit != 0 && (limit as u64) < now - kept.seconds
+    if limit == 0 {
+        return false;
+    }
+    (limit as u64) < now - kept.seconds
 }
 
 // Checks a frame's time in the table of clocks, keeps its pair, and answers whether it alerts.

@@ -9,8 +9,8 @@ returns-then-state-last c = rw (lt-ltb _ _ c.if-state-last.true)
 
 pub returns-then-state-last-2 : goal.returns-then-state-last-2
 unfolding replays
-returns-then-state-last-2 c = rw (le-ltb _ _ c.if-state-last.false, eq-eqb _ _ c.if-state-last-2.true)
+returns-then-state-last-2 c = rw (le-ltb _ _ c.if-state-last.false, ne_eqb _ _ c.if-state-last-2.true)
 
-pub returns-else-state-last-2 : goal.returns-else-state-last-2
+pub returns : goal.returns
 unfolding replays
-returns-else-state-last-2 c = rw (le-ltb _ _ c.if-state-last.false, ne_eqb _ _ c.if-state-last-2.false)
+returns c = rw (le-ltb _ _ c.if-state-last.false, eq-eqb _ _ c.if-state-last-2.false)
