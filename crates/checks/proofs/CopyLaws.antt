@@ -3,15 +3,15 @@
 use Prim.Native.Nat.{ℕ, ◌+◌}
 use mathlib.Core.Bool.{Bool, true, false, ◌&&◌, ◌||◌, not, cond, false≢true}
 use mathlib.Core.List.{List}
-use mathlib.Core.Option.{Option, none, some}
+use mathlib.Core.Option as maybe
+use mathlib.Core.Option.{none, some}
 use mathlib.Core.Path.{◌≡◌, refl, sym, ap, ◌∙◌}
 use native.Mathlib.Omega.{arith}
 use borrow.Author.Tests.{le-ltb, le-leb, eq-eqb}
 use lib.Dec.{eqb}
 use lib.ListN.{length, get_or}
+use Rattle.std.specs.Prelude.{Option, Some, None}
 use Rattle.records.proofs.Booleans.{cond_holds}
-use Rattle.records.specs.declared.search.Found.{Found}
-use Rattle.records.specs.declared.search.Found.TheVariants.{At, Nothing}
 use Rattle.records.specs.Remembered.{after}
 use Rattle.tables.proofs.PlaceLaws.{found_key}
 use Rattle.tables.proofs.RankTable.{value_left}
@@ -41,7 +41,7 @@ replay_is CycleWrap e = absurd (false≢true e)
 replay_is (SuspiciousSmpGap gap) e = absurd (false≢true e)
 
 -- a count is a replay of what it leaves
-count_replays : (o : Option ℕ) (n : ℕ) → count_outcome (after (λ i. i) kept_count o n) n ≡ Replay
+count_replays : (o : maybe.Option ℕ) (n : ℕ) → count_outcome (after (λ i. i) kept_count o n) n ≡ Replay
 count_replays none n = sym (count_same n n refl)
 count_replays (some c) n = go (is_replay (count_outcome c n)) refl
   where
@@ -63,7 +63,7 @@ same_replays numbers =
     λ i. le-ltb numbers.0 numbers.0 (omega arith) i
     || (eq-eqb numbers.0 numbers.0 refl i && le-leb numbers.1 numbers.1 (omega arith) i)
 
-numbers_replay : (o : Option ((ℕ × ℕ) × ℕ)) (new : (ℕ × ℕ) × ℕ) → replays (after (λ i. i) kept_numbers o new).0 new.0 ≡ true
+numbers_replay : (o : maybe.Option ((ℕ × ℕ) × ℕ)) (new : (ℕ × ℕ) × ℕ) → replays (after (λ i. i) kept_numbers o new).0 new.0 ≡ true
 numbers_replay none new = same_replays new.0
 numbers_replay (some last) new = go (replays last.0 new.0) refl
   where
@@ -95,7 +95,7 @@ clock_again t limit address pair z = go (has_clock pair)
   where
     -- a pair is neither earlier than itself nor ahead of it
     same_pair : clock_alert limit (some pair) pair ≡ false
-    same_pair = sym (alert_same limit pair pair {known = true} refl refl) ∙ le-ltb pair.1 pair.1 (omega arith)
+    same_pair = sym (alert_same limit pair pair refl) ∙ le-ltb pair.1 pair.1 (omega arith)
 
     go : (present : Bool) → (checked_if present (checked_if present t limit address pair).table limit address pair).alert ≡ false
     go true =
@@ -111,7 +111,7 @@ abbrev bound : List ℕ → ℕ → ℕ → List ℕ
 bound t i address = word_set (word_set t 178 i 1) 194 i address
 
 -- a frame of the bound address is no hijack
-bound_again : (t key : List ℕ) (address i : ℕ) → length t ≡ 210 → length key ≡ 10 → found named t key ≡ At i
+bound_again : (t key : List ℕ) (address i : ℕ) → length t ≡ 210 → length key ≡ 10 → found named t key ≡ Some i
     → (cb_checked (bound t i address) key address).hijack ≡ false
 unfolding cb_checked bound_at
 bound_again t key address i z g f =
@@ -134,13 +134,13 @@ use_again t key address z g = go (eqb (get_or key 1 0) 0) refl (found named t ke
     Same : CbChecked → Type 0
     Same c = (cb_checked c.table key address).hijack ≡ c.hijack
 
-    used : (i : ℕ) → eqb (get_or key 1 0) 0 ≡ false → found named t key ≡ At i → (unbound : Bool) → eqb (word_of t 178 i) 0 ≡ unbound
+    used : (i : ℕ) → eqb (get_or key 1 0) 0 ≡ false → found named t key ≡ Some i → (unbound : Bool) → eqb (word_of t 178 i) 0 ≡ unbound
         → Same (cond unbound (record { table = bound t i address; hijack = false }) (record { table = t; hijack = not (eqb (word_of t 194 i) address) }))
     used i e f true u = bound_again t key address i z g f
     used i e f false u = rw (e, f, u)
 
-    go : (empty : Bool) → eqb (get_or key 1 0) 0 ≡ empty → (f : Found) → found named t key ≡ f
+    go : (empty : Bool) → eqb (get_or key 1 0) 0 ≡ empty → (f : Option ℕ) → found named t key ≡ f
         → Same (cond empty (record { table = t; hijack = false }) (bound_by t address f))
     go true e f q = rw e
-    go false e Nothing q = rw (e, q)
-    go false e (At i) q = used i e q (eqb (word_of t 178 i) 0) refl
+    go false e None q = rw (e, q)
+    go false e (Some i) q = used i e q (eqb (word_of t 178 i) 0) refl

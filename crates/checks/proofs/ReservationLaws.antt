@@ -2,14 +2,13 @@
 use Prim.Native.Nat.{ℕ, ◌+◌, ◌<◌}
 use mathlib.Core.Bool.{Bool, true, false, not, cond}
 use mathlib.Core.List.{List}
-use mathlib.Core.Path.{◌≡◌, sym, ap, ◌∙◌}
+use mathlib.Core.Path.{◌≡◌, refl, sym, ap, ◌∙◌}
 use native.Mathlib.Omega.{arith}
 use borrow.Author.Tests.{eq-eqb, ne_eqb}
 use lib.Dec.{eqb}
 use lib.ListN.{get_or, set}
+use Rattle.std.specs.Prelude.{Option, Some, None}
 use Rattle.records.proofs.Booleans.{cond_yes, cond_no, answered}
-use Rattle.records.specs.declared.search.Found.{Found}
-use Rattle.records.specs.declared.search.Found.TheVariants.{At, Nothing}
 use Rattle.tables.proofs.OrderLaws.{rank_below}
 use Rattle.tables.proofs.PackedLaws.{packed_same}
 use Rattle.tables.specs.Column.{word_of, word_set}
@@ -19,6 +18,11 @@ use Rattle.tables.specs.Packed.{packed}
 use Rattle.tables.specs.Place.{found}
 use Rattle.checks.specs.Reservation.{taken_at, place_or, place_for, reserved_at, reserved, owned_by, owned_slot}
 use Rattle.checks.specs.Reservation.{freed_slot, freed_rank, all_freed, released, CbChecked, bound_at, bound_by, cb_checked}
+
+-- no slot, where there is none
+pub is_none : (f : Option ℕ) → ((i : ℕ) → f ≡ Some i → ⊥) → f ≡ None
+is_none (Some i) n = absurd (n i refl)
+is_none None n = refl
 
 -- ---- the use of a reservation
 
@@ -39,23 +43,23 @@ module _ (t key : List ℕ) (address : ℕ) where
   unfolding cb_checked
   cb_empty e = sym (cond_yes _ _ (eq-eqb (get_or key 1 0) 0 e))
 
-  module _ (n : get_or key 1 0 ≡ 0 → ⊥) {f : Found} (q : f ≡ found named t key) where
-    pub cb_none : f ≡ Nothing → record { table = t; hijack = false } ≡ cb_checked t key address
+  module _ (n : get_or key 1 0 ≡ 0 → ⊥) {f : Option ℕ} (q : f ≡ found named t key) where
+    pub cb_none : f ≡ None → record { table = t; hijack = false } ≡ cb_checked t key address
     unfolding cb_checked
     cb_none e = ap (bound_by t address) (answered e q) ∙ sym (cond_no _ _ (ne_eqb (get_or key 1 0) 0 n))
 
-    pub cb_used : {i : ℕ} {c : CbChecked} → f ≡ At i → c ≡ bound_at t i address → c ≡ cb_checked t key address
+    pub cb_used : {i : ℕ} {c : CbChecked} → f ≡ Some i → c ≡ bound_at t i address → c ≡ cb_checked t key address
     unfolding cb_checked
     cb_used e u = u ∙ ap (bound_by t address) (answered e q) ∙ sym (cond_no _ _ (ne_eqb (get_or key 1 0) 0 n))
 
 -- ---- a SelectControl
 
-module _ (t key : List ℕ) {f : Found} (q : f ≡ found named t key) where
-  pub place_known : {i : ℕ} → f ≡ At i → At i ≡ place_for t key
+module _ (t key : List ℕ) {f : Option ℕ} (q : f ≡ found named t key) where
+  pub place_known : {i : ℕ} → f ≡ Some i → Some i ≡ place_for t key
   unfolding place_for
   place_known e = ap (λ x. place_or x (free_slot (rank_of t))) (answered e q)
 
-  pub place_free : {g : Found} → f ≡ Nothing → g ≡ free_slot (rank_of t) → g ≡ place_for t key
+  pub place_free : {g : Option ℕ} → f ≡ None → g ≡ free_slot (rank_of t) → g ≡ place_for t key
   unfolding place_for
   place_free e s = s ∙ ap (λ x. place_or x (free_slot (rank_of t))) (answered e q)
 
@@ -65,12 +69,12 @@ module _ (t key : List ℕ) (client : ℕ) where
   unfolding taken_at
   taken i p q r s u = rw (u, s, r, q, p)
 
-  module _ {f : Found} (q : f ≡ place_for t key) where
-    pub reserved_at_lem : {i : ℕ} {u : List ℕ} → f ≡ At i → u ≡ taken_at t i key client → record { table = u; taken = true } ≡ reserved t key client
+  module _ {f : Option ℕ} (q : f ≡ place_for t key) where
+    pub reserved_at_lem : {i : ℕ} {u : List ℕ} → f ≡ Some i → u ≡ taken_at t i key client → record { table = u; taken = true } ≡ reserved t key client
     unfolding reserved
     reserved_at_lem e p = (λ j. record { table = p j; taken = true }) ∙ ap (reserved_at t key client) (answered e q)
 
-    pub reserved_none : f ≡ Nothing → record { table = t; taken = false } ≡ reserved t key client
+    pub reserved_none : f ≡ None → record { table = t; taken = false } ≡ reserved t key client
     unfolding reserved
     reserved_none e = ap (reserved_at t key client) (answered e q)
 
@@ -102,11 +106,11 @@ module _ (t key : List ℕ) (client : ℕ) where
   unfolding released
   released_all e p = p ∙ sym (cond_yes _ _ (eq-eqb (get_or key 1 0) 0 e))
 
-  module _ (n : get_or key 1 0 ≡ 0 → ⊥) {f : Found} (q : f ≡ owned_slot t key client) where
-    pub released_at : {i : ℕ} {u : List ℕ} → f ≡ At i → u ≡ rank_set t i 16 → u ≡ released t key client
+  module _ (n : get_or key 1 0 ≡ 0 → ⊥) {f : Option ℕ} (q : f ≡ owned_slot t key client) where
+    pub released_at : {i : ℕ} {u : List ℕ} → f ≡ Some i → u ≡ rank_set t i 16 → u ≡ released t key client
     unfolding released
     released_at e p = p ∙ ap (freed_slot t) (answered e q) ∙ sym (cond_no _ _ (ne_eqb (get_or key 1 0) 0 n))
 
-    pub released_none : f ≡ Nothing → t ≡ released t key client
+    pub released_none : f ≡ None → t ≡ released t key client
     unfolding released
     released_none e = ap (freed_slot t) (answered e q) ∙ sym (cond_no _ _ (ne_eqb (get_or key 1 0) 0 n))

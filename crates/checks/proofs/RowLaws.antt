@@ -3,34 +3,34 @@ use Prim.Native.Nat.{ℕ}
 use mathlib.Core.List.{List, [], ◌∷◌}
 use mathlib.Core.Path.{◌≡◌, refl, ap}
 use lib.ListN.{get_or}
+use Rattle.std.specs.Prelude.{Result, Ok, Err}
 use Rattle.records.proofs.NumberLaws.{read_back}
 use Rattle.records.proofs.RowLaws.{error_row_injective}
-use Rattle.checks.specs.declared.rules.Added.{Added}
-use Rattle.checks.specs.declared.rules.Added.TheVariants.{Rule, Error}
-use Rattle.checks.specs.declared.sv_publisher.PublisherMatch.{PublisherMatch}
-use Rattle.checks.specs.declared.sv_publisher.PublisherMatch.TheVariants.{NotRegistered, WrongAddress, Fits}
+use Rattle.records.specs.declared.error.VsError.{VsError}
+use Rattle.checks.specs.declared.sv_publisher.PublisherMismatch.{PublisherMismatch}
+use Rattle.checks.specs.declared.sv_publisher.PublisherMismatch.TheVariants.{NotRegistered, WrongAddress}
 use Rattle.checks.specs.declared.sv_seq.SvSeqOutcome.{SvSeqOutcome}
 use Rattle.checks.specs.declared.sv_seq.SvSeqOutcome.TheVariants.{FirstSeen, Replay, ForwardGap, CycleWrap, SuspiciousSmpGap}
 use Rattle.checks.specs.Rules.{added_row}
 use Rattle.checks.specs.SvPublisher.{publisher_match_row}
 use Rattle.checks.specs.SvSeq.{outcome_row}
 
-pub added_row_injective : (a b : Added) → added_row a ≡ added_row b → a ≡ b
-added_row_injective Rule Rule e = refl
-added_row_injective Rule (Error y) e = cc
-added_row_injective (Error x) Rule e = cc
-added_row_injective (Error x) (Error y) e = ap Error (error_row_injective x y e)
+pub added_row_injective : (a b : Result (Unit {0}) VsError) → added_row a ≡ added_row b → a ≡ b
+added_row_injective (Ok u) (Ok v) e = refl
+added_row_injective (Ok u) (Err y) e = cc
+added_row_injective (Err x) (Ok v) e = cc
+added_row_injective (Err x) (Err y) e = ap Err (error_row_injective x y e)
 
-pub publisher_match_row_injective : (a b : PublisherMatch) → publisher_match_row a ≡ publisher_match_row b → a ≡ b
-publisher_match_row_injective NotRegistered NotRegistered e = refl
-publisher_match_row_injective NotRegistered WrongAddress e = cc
-publisher_match_row_injective NotRegistered (Fits j) e = cc
-publisher_match_row_injective WrongAddress NotRegistered e = cc
-publisher_match_row_injective WrongAddress WrongAddress e = refl
-publisher_match_row_injective WrongAddress (Fits j) e = cc
-publisher_match_row_injective (Fits i) NotRegistered e = cc
-publisher_match_row_injective (Fits i) WrongAddress e = cc
-publisher_match_row_injective (Fits i) (Fits j) e = cc
+pub publisher_match_row_injective : (a b : Result ℕ PublisherMismatch) → publisher_match_row a ≡ publisher_match_row b → a ≡ b
+publisher_match_row_injective (Err NotRegistered) (Err NotRegistered) e = refl
+publisher_match_row_injective (Err NotRegistered) (Err WrongAddress) e = cc
+publisher_match_row_injective (Err NotRegistered) (Ok j) e = cc
+publisher_match_row_injective (Err WrongAddress) (Err NotRegistered) e = cc
+publisher_match_row_injective (Err WrongAddress) (Err WrongAddress) e = refl
+publisher_match_row_injective (Err WrongAddress) (Ok j) e = cc
+publisher_match_row_injective (Ok i) (Err NotRegistered) e = cc
+publisher_match_row_injective (Ok i) (Err WrongAddress) e = cc
+publisher_match_row_injective (Ok i) (Ok j) e = cc
 
 -- the outcome of a row
 abbrev outcome_of : List ℕ → SvSeqOutcome

@@ -14,7 +14,7 @@ use Rattle.tables.specs.Place.{entered, if_known}
 use Rattle.tables.specs.Table.{value_of}
 use Rattle.tables.specs.WordTable.{one_number}
 use Rattle.checks.specs.declared.sv_seq.SvSeqOutcome.{SvSeqOutcome}
-use Rattle.checks.specs.declared.sv_seq.SvSeqOutcome.TheVariants.{Replay, ForwardGap, CycleWrap, SuspiciousSmpGap}
+use Rattle.checks.specs.declared.sv_seq.SvSeqOutcome.TheVariants.{FirstSeen, Replay, ForwardGap, CycleWrap, SuspiciousSmpGap}
 use Rattle.checks.specs.SvSeq.{sv_streams, count_outcome, sv_outcome, is_replay, count_or, kept_count, sv_checked}
 
 module _ (c n : ℕ) where
@@ -40,6 +40,15 @@ module _ (c n : ℕ) where
     unfolding count_outcome
     count_suspicious l s =
         rw (ne_eqb n c (λ e. omega arith), le-ltb c n (omega arith), lt-leb (c - n) 32766 l, lt-leb (65536 - (c - n)) 256 (omega arith))
+
+-- any other outcome is no replay
+pub not_replay : (o : SvSeqOutcome) → (o ≡ Replay → ⊥) → false ≡ is_replay o
+unfolding is_replay
+not_replay FirstSeen n = refl
+not_replay Replay n = absurd (n refl)
+not_replay (ForwardGap gap) n = refl
+not_replay CycleWrap n = refl
+not_replay (SuspiciousSmpGap gap) n = refl
 
 -- the count that is kept
 kept_after : (known : Bool) (last n : ℕ) → count_or (is_replay (sv_outcome (if_known known last) n)) last n ≡ after (λ i. i) kept_count (if_known known last) n

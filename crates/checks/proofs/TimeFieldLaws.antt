@@ -29,29 +29,25 @@ pub latest : (pair : ℕ × ℕ) (o : Option (ℕ × ℕ)) → pair ≡ after (�
 latest pair none = refl
 latest pair (some kept) = refl
 
-module _ (limit : ℕ) (kept pair : ℕ × ℕ) {known : Bool} where
-  pub alert_new : known ≡ false → false ≡ clock_alert limit (if_known known kept) pair
-  alert_new e = rw e
+module _ (limit : ℕ) (kept pair : ℕ × ℕ) where
+  pub alert_earlier : pair.0 < kept.0 → true ≡ clock_alert limit (some kept) pair
+  unfolding earlier
+  alert_earlier h = rw (lt-ltb pair.0 kept.0 h)
 
-  module _ (e : known ≡ true) where
-    pub alert_earlier : pair.0 < kept.0 → true ≡ clock_alert limit (if_known known kept) pair
+  pub alert_same : pair.0 ≡ kept.0 → ltb pair.1 kept.1 ≡ clock_alert limit (some kept) pair
+  unfolding earlier
+  alert_same h =
+      let d : ltb limit (pair.0 - kept.0) ≡ false = le-ltb limit (pair.0 - kept.0) (omega arith) in
+      rw (le-ltb pair.0 kept.0 (omega arith), eq-eqb pair.0 kept.0 h, d) (sym (or-none (ltb 0 limit) (ltb pair.1 kept.1)))
+
+  module _ (h : kept.0 < pair.0) where
+    pub alert_unlimited : limit ≡ 0 → false ≡ clock_alert limit (some kept) pair
     unfolding earlier
-    alert_earlier h = rw (e, lt-ltb pair.0 kept.0 h)
+    alert_unlimited z = rw (le-ltb pair.0 kept.0 (omega arith), ne_eqb pair.0 kept.0 (λ q. omega arith), le-ltb 0 limit (omega arith))
 
-    pub alert_same : pair.0 ≡ kept.0 → ltb pair.1 kept.1 ≡ clock_alert limit (if_known known kept) pair
+    pub alert_ahead : (limit ≡ 0 → ⊥) → ltb limit (pair.0 - kept.0) ≡ clock_alert limit (some kept) pair
     unfolding earlier
-    alert_same h =
-        let d : ltb limit (pair.0 - kept.0) ≡ false = le-ltb limit (pair.0 - kept.0) (omega arith) in
-        rw (e, le-ltb pair.0 kept.0 (omega arith), eq-eqb pair.0 kept.0 h, d) (sym (or-none (ltb 0 limit) (ltb pair.1 kept.1)))
-
-    module _ (h : kept.0 < pair.0) where
-      pub alert_unlimited : limit ≡ 0 → false ≡ clock_alert limit (if_known known kept) pair
-      unfolding earlier
-      alert_unlimited z = rw (e, le-ltb pair.0 kept.0 (omega arith), ne_eqb pair.0 kept.0 (λ q. omega arith), le-ltb 0 limit (omega arith))
-
-      pub alert_ahead : (limit ≡ 0 → ⊥) → ltb limit (pair.0 - kept.0) ≡ clock_alert limit (if_known known kept) pair
-      unfolding earlier
-      alert_ahead z = rw (e, le-ltb pair.0 kept.0 (omega arith), ne_eqb pair.0 kept.0 (λ q. omega arith), lt-ltb 0 limit (omega arith))
+    alert_ahead z = rw (le-ltb pair.0 kept.0 (omega arith), ne_eqb pair.0 kept.0 (λ q. omega arith), lt-ltb 0 limit (omega arith))
 
 module _ (t : List ℕ) (limit address : ℕ) (pair : ℕ × ℕ) where
   -- a pair of zeros
@@ -59,15 +55,15 @@ module _ (t : List ℕ) (limit address : ℕ) (pair : ℕ × ℕ) where
   unfolding time_checked
   time_skipped e = sym (cond_no _ _ e)
 
-  module _ {words first out : List ℕ} {place : Place} {seconds fraction : ℕ} {alert : Bool} where
+  module _ {words first out : List ℕ} {place : Place} {kept : ℕ × ℕ} {alert : Bool} where
     pub time_checked_lem : has_clock pair ≡ true → record { table = words; place = place } ≡ entered numbered t address
-        → seconds ≡ word_of words 18 place.slot → fraction ≡ word_of words 34 place.slot
+        → kept ≡ (word_of words 18 place.slot, word_of words 34 place.slot)
         → first ≡ word_set words 18 place.slot pair.0 → out ≡ word_set first 34 place.slot pair.1
-        → alert ≡ clock_alert limit (if_known place.known (seconds, fraction)) pair → record { table = out; alert = alert } ≡ time_checked t limit address pair
+        → alert ≡ clock_alert limit (if_known place.known kept) pair → record { table = out; alert = alert } ≡ time_checked t limit address pair
     unfolding time_checked
-    time_checked_lem h e s f u o a =
-        let v : if_known place.known (seconds, fraction) ≡ value_of clocks t address =
-        ap (if_known place.known) (λ i. (s i, f i)) ∙ value_read numbered numbered_laws two_numbers two_laws t address e in
+    time_checked_lem h e s u o a =
+        let v : if_known place.known kept ≡ value_of clocks t address =
+        ap (if_known place.known) s ∙ value_read numbered numbered_laws two_numbers two_laws t address e in
         let p = value_stored numbered numbered_laws two_numbers two_laws t address e (λ i. i) (λ kept i. i) pair {w = pair}
         (latest pair (value_of clocks t address)) (o ∙ ap (λ (l : List ℕ). word_set l 34 place.slot pair.1) u) in
         let q = a ∙ ap (λ x. clock_alert limit x pair) v in

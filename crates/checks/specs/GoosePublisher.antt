@@ -1,7 +1,6 @@
 -- GOOSE publishers (01, "Rules": a rule with an empty name fits any name of its address). Addresses, the key columns of a table by name from
 -- word 16 on, and the count at 176.
-use Rattle.std.specs.Prelude.{ℕ, ◌+◌, Bool, ◌&&◌, ◌||◌, List, eqb, length, get_or, set}
-use Rattle.records.specs.declared.search.Found.{Found}
+use Rattle.std.specs.Prelude.{ℕ, ◌+◌, Bool, ◌&&◌, ◌||◌, List, eqb, length, get_or, set, Option}
 use Rattle.records.specs.Search.{first_from}
 use Rattle.tables.specs.Column.{word_of, word_set}
 use Rattle.tables.specs.Named.{has_key, key_stored}
@@ -17,7 +16,7 @@ unfoldable pub goose_fits_at : List ℕ → ℕ → List ℕ → ℕ → Bool
 goose_fits_at p address name i = eqb (word_of p 0 i) address && (eqb (word_of p 32 i) 0 || has_key 16 p name i)
 
 -- the place of the first rule that fits
-unfoldable pub goose_publisher : List ℕ → ℕ → List ℕ → Found
+unfoldable pub goose_publisher : List ℕ → ℕ → List ℕ → Option ℕ
 goose_publisher p address name = first_from (goose_fits_at p address name) 0 (rule_count (goose_publisher_count p))
 
 -- with one more rule at a place, behind the others

@@ -3,6 +3,8 @@ use Rattle.std.specs.Prelude.{ℕ, min, ◌-◌, ◌^◌, Bool, false, ◌&&◌,
 use Rattle.std.proofs.Math.Option.{Option, none, some}
 use Rattle.records.specs.declared.schedule.RetxSchedule.{RetxSchedule}
 use Rattle.records.specs.Schedule.{expected_interval, within_tolerance}
+use Rattle.checks.specs.declared.goose_seq.GooseNumbers.{GooseNumbers}
+use Rattle.tables.specs.Column.{word_of}
 use Rattle.tables.specs.Named.{named}
 use Rattle.tables.specs.Table.{Columns, value_of, stepped}
 use Rattle.tables.specs.WordTable.{three_numbers, word_table}
@@ -10,6 +12,14 @@ use Rattle.tables.specs.WordTable.{three_numbers, word_table}
 -- the streams as a table by key: of each its last stored frame's numbers, stNum and sqNum, and its time
 abbrev pub goose_streams : Columns (List ℕ) (List ℕ) ((ℕ × ℕ) × ℕ)
 goose_streams = word_table named three_numbers
+
+-- a frame's numbers and time
+abbrev pub numbers_of : GooseNumbers ℕ → (ℕ × ℕ) × ℕ
+numbers_of n = ((n.st_num, n.sq_num), n.timestamp_us)
+
+-- those of a slot
+abbrev pub numbers_at : List ℕ → ℕ → (ℕ × ℕ) × ℕ
+numbers_at t slot = ((word_of t 162 slot, word_of t 178 slot), word_of t 194 slot)
 
 -- lower stNum, or equal stNum with sqNum not above the last, is replay
 unfoldable pub replays : ℕ × ℕ → ℕ × ℕ → Bool
@@ -21,9 +31,6 @@ goose_replay none numbers = false
 goose_replay (some last) numbers = replays last.0 numbers
 
 -- what a replay leaves, and any other frame replaces
-abbrev pub number_or : Bool → ℕ → ℕ → ℕ
-number_or replay last new = cond replay last new
-
 abbrev pub kept_numbers : (ℕ × ℕ) × ℕ → (ℕ × ℕ) × ℕ → (ℕ × ℕ) × ℕ
 kept_numbers last new = cond (replays last.0 new.0) last new
 

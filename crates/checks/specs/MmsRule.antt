@@ -1,7 +1,6 @@
 -- MMS rules (01, "Rules": the first rule whose mask is FFFF or has the raw number's bit applies). Masks, read-only flags from word 16 on, rates from
 -- 32 on, and the count at 48.
-use Rattle.std.specs.Prelude.{ℕ, ◌+◌, ◌/◌, ◌%◌, ◌^◌, min, Bool, ◌&&◌, ◌||◌, not, List, eqb, ltb, get_or, set}
-use Rattle.records.specs.declared.search.Found.{Found}
+use Rattle.std.specs.Prelude.{ℕ, ◌+◌, ◌/◌, ◌%◌, ◌^◌, min, Bool, ◌&&◌, ◌||◌, not, List, eqb, ltb, get_or, set, Option}
 use Rattle.records.specs.Search.{first_from}
 use Rattle.tables.specs.Column.{word_of, word_set}
 use Rattle.checks.specs.Keys.{flag_word}
@@ -20,7 +19,7 @@ abbrev pub mms_rule_count : List ℕ → ℕ
 mms_rule_count p = get_or p 48 0
 
 -- the place of the first rule that applies
-unfoldable pub first_rule : List ℕ → ℕ → Found
+unfoldable pub first_rule : List ℕ → ℕ → Option ℕ
 first_rule p raw = first_from (λ i. applies (get_or p i 0) raw) 0 (rule_count (mms_rule_count p))
 
 -- whether the rule at a place is read-only, and its rate

@@ -2,12 +2,17 @@
 use Rattle.std.specs.Prelude.{ℕ, ◌-◌, Bool, false, ◌&&◌, ◌||◌, not, cond, List, eqb, ltb}
 use Rattle.std.proofs.Math.Option.{Option, none, some}
 use Rattle.tables.specs.Numbered.{numbered}
+use Rattle.checks.specs.declared.time_field.ClockPair.{ClockPair}
 use Rattle.tables.specs.Table.{Columns, value_of, stepped}
 use Rattle.tables.specs.WordTable.{two_numbers, word_table}
 
 -- the clocks as a table by address: of each its last pair, seconds and fraction
 abbrev pub clocks : Columns (List ℕ) ℕ (ℕ × ℕ)
 clocks = word_table numbered two_numbers
+
+-- a clock's pair as one of numbers
+abbrev pub pair_of : ClockPair ℕ → ℕ × ℕ
+pair_of pair = (pair.seconds, pair.fraction)
 
 -- the pair (0, 0) is neither checked nor kept
 unfoldable pub has_clock : ℕ × ℕ → Bool

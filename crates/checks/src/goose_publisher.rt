@@ -4,8 +4,8 @@ ghost use Rattle.std.specs.Prelude.{◌≡◌, ◌≤◌, length};
 ghost use Rattle.checks.specs.GoosePublisher.{goose_fits_at, goose_publisher, with_goose_publisher, goose_added};
 
 use crate::keys::publisher_key;
-use crate::rules::{Added, PUBLISHER_KEYS, add_answer, rule_count};
-use records::search::Found;
+use crate::rules::{PUBLISHER_KEYS, add_answer, rule_count};
+use records::error::VsError;
 use tables::column::{set_word, word};
 use tables::named::{has_key, store_key};
 
@@ -29,21 +29,19 @@ fn fits_at(t: &[u64], place: usize, address: u64, name: &[u64; 10]) -> bool
 }
 
 // The place of the first rule that fits.
-pub fn goose_publisher(t: &[u64], address: u64, name: &[u64; 10]) -> Found
+pub fn goose_publisher(t: &[u64], address: u64, name: &[u64; 10]) -> Option<usize>
     requires { length t.now ≡ 177 }
     ensures { result ≡ goose_publisher t.now address name.now }
 {
     let n = rule_count(t[COUNT]);
-    let mut i: usize = 0;
-    loop {
-        if i >= n {
-            break Found::Nothing;
-        }
+    let mut place = None;
+    for i in 0..n {
         if fits_at(t, i, address, name) {
-            break Found::At(i);
+            place = Some(i);
+            break;
         }
-        i += 1;
     }
+    place
 }
 
 // Stores one more rule, behind the others.
@@ -57,17 +55,13 @@ fn store_goose_publisher(t: &mut [u64], slot: usize, address: u64, name: &[u64; 
 }
 
 // Adds a rule; a refused one changes nothing.
-pub fn add_goose_publisher_in(t: &mut [u64], address: u64, name: &[u8]) -> Added
+pub fn add_goose_publisher_in(t: &mut [u64], address: u64, name: &[u8]) -> Result<(), VsError>
     requires { length t.old ≡ 177 }
     ensures { record { rules = t.new; answer = result } ≡ goose_added t.old address name.now }
 {
     let count = t[COUNT];
-    match add_answer(count, name.len()) {
-        Added::Rule => {
-            let key = publisher_key(name);
-            store_goose_publisher(t, rule_count(count), address, &key);
-            Added::Rule
-        }
-        Added::Error(e) => Added::Error(e),
-    }
+    add_answer(count, name.len())?;
+    let key = publisher_key(name);
+    store_goose_publisher(t, rule_count(count), address, &key);
+    Ok(())
 }

@@ -1,13 +1,13 @@
 // GOOSE streams, carried over from industrial/iec61850-monitor/src/lib.rs of craton-shield a31d888527 (Apache-2.0) and changed: a
 // table by name; no flag for a stream without numbers, since there is none.
-ghost use Rattle.std.specs.Prelude.{◌≡◌, min, ◌-◌, ◌^◌, length};
-ghost use Rattle.tables.specs.Place.{if_known};
-ghost use Rattle.checks.specs.GooseSeq.{replays, goose_replay, outside_tolerance, retx_checked, goose_checked, number_or};
+ghost use Rattle.std.specs.Prelude.{◌≡◌, min, ◌-◌, ◌^◌, ◌<◌, cond, option_map, length};
+ghost use Rattle.tables.specs.Place.{known_of};
+ghost use Rattle.checks.specs.GooseSeq.{numbers_of, numbers_at, replays, goose_replay, outside_tolerance, retx_checked, goose_checked};
 
 use records::schedule::RetxSchedule;
-use records::search::Found;
 use tables::column::word;
-use tables::named::{VALUES, enter_key, find_key};
+use tables::named::VALUES;
+use tables::place::{enter, find};
 
 // Where the last stored frame's numbers and time stand.
 const STATES: usize = VALUES;
@@ -16,78 +16,91 @@ const SEQUENCES: usize = VALUES + 16;
 
 const TIMES: usize = VALUES + 32;
 
+// A frame's numbers and time: numbers of 32 bits in a frame, words in a table.
+#[derive(Clone, Copy)]
+pub struct GooseNumbers<T> {
+    pub st_num: T,
+    pub sq_num: T,
+    pub timestamp_us: u64,
+}
+
 // Whether a frame's numbers are not above the last ones of its stream.
-fn replays(last_st_num: u64, last_sq_num: u64, st_num: u32, sq_num: u32) -> bool
-    ensures { result ≡ replays (last_st_num, last_sq_num) (st_num, sq_num) }
+fn replays(last: GooseNumbers<u64>, new: GooseNumbers<u32>) -> bool
+    ensures { result ≡ replays (last.st_num, last.sq_num) (new.st_num, new.sq_num) }
 {
-    let state = st_num as u64;
-    if state < last_st_num {
+    let state = new.st_num as u64;
+    if state < last.st_num {
         return true;
     }
-    if state != last_st_num {
+    if state != last.st_num {
         return false;
     }
-    (sq_num as u64) <= last_sq_num
+    (new.sq_num as u64) <= last.sq_num
 }
 
 // The same if the stream is known.
-fn goose_replay(
-    known: bool,
-    last_st_num: u64,
-    last_sq_num: u64,
-    last_us: u64,
-    st_num: u32,
-    sq_num: u32,
-) -> bool
-    ensures { result ≡ goose_replay (if_known known ((last_st_num, last_sq_num), last_us)) (st_num, sq_num) }
+fn goose_replay(last: Option<GooseNumbers<u64>>, new: GooseNumbers<u32>) -> bool
+    ensures { result ≡ goose_replay (known_of (option_map numbers_of last)) (new.st_num, new.sq_num) }
 {
-    if !known {
-        return false;
+    match last {
+        Some(last) => replays(last, new),
+        None => false,
     }
-    replays(last_st_num, last_sq_num, st_num, sq_num)
 }
 
-// A number to keep: a replay keeps the last one.
-fn number_or(replay: bool, last: u64, new: u64) -> u64
-    ensures { result ≡ number_or replay last new }
+// The numbers to keep: a replay keeps the last ones.
+fn numbers_or(replay: bool, last: GooseNumbers<u64>, new: GooseNumbers<u32>) -> GooseNumbers<u64>
+    ensures { numbers_of result ≡ cond replay (numbers_of last) (numbers_of new) }
 {
-    if replay { last } else { new }
+    if replay {
+        return last;
+    }
+    GooseNumbers {
+        st_num: new.st_num as u64,
+        sq_num: new.sq_num as u64,
+        timestamp_us: new.timestamp_us,
+    }
 }
 
 // An observed interval, the most that 32 bits hold if it is larger.
 fn observed_us(elapsed_us: u64) -> u32
     ensures { result ≡ min elapsed_us (2 ^ 32 - 1) }
 {
-    if elapsed_us < 0xffff_ffff {
-        return elapsed_us as u32;
-    }
-    0xffff_ffff
+    u32::try_from(elapsed_us).unwrap_or(u32::MAX)
 }
 
 // Whether a repetition of the last state came too early or too late.
 fn outside_tolerance(
     schedule: RetxSchedule,
-    last_st_num: u64,
-    last_sq_num: u64,
-    last_us: u64,
-    st_num: u32,
-    sq_num: u32,
-    now_us: u64,
+    last: GooseNumbers<u64>,
+    new: GooseNumbers<u32>,
 ) -> bool
-    ensures { result ≡ outside_tolerance schedule ((last_st_num, last_sq_num), last_us) ((st_num, sq_num), now_us) }
+    ensures { result ≡ outside_tolerance schedule (numbers_of last) (numbers_of new) }
 {
-    if (st_num as u64) != last_st_num {
+    if (new.st_num as u64) != last.st_num {
         return false;
     }
-    if (sq_num as u64) <= last_sq_num {
+    if (new.sq_num as u64) <= last.sq_num {
         return false;
     }
-    if now_us < last_us {
+    if new.timestamp_us < last.timestamp_us {
         return false;
     }
-    let observed = observed_us(now_us - last_us);
-    let expected = schedule.expected_interval_us(sq_num);
+    let observed = observed_us(new.timestamp_us - last.timestamp_us);
+    let expected = schedule.expected_interval_us(new.sq_num);
     !schedule.within_tolerance(observed, expected)
+}
+
+// The numbers of a slot.
+fn numbers_at(t: &[u64], slot: usize) -> GooseNumbers<u64>
+    requires { (length t.now ≡ 210) × (slot < 16) }
+    ensures { numbers_of result ≡ numbers_at t.now slot }
+{
+    GooseNumbers {
+        st_num: t[STATES + slot],
+        sq_num: t[SEQUENCES + slot],
+        timestamp_us: t[TIMES + slot],
+    }
 }
 
 // Whether a frame of a known stream misses the schedule. The look-up is no use of the stream.
@@ -95,53 +108,29 @@ pub fn retx_anomaly(
     t: &[u64],
     key: &[u64; 10],
     schedule: RetxSchedule,
-    st_num: u32,
-    sq_num: u32,
-    now_us: u64,
+    new: GooseNumbers<u32>,
 ) -> bool
     requires { length t.now ≡ 210 }
-    ensures { result ≡ retx_checked schedule t.now key.now ((st_num, sq_num), now_us) }
+    ensures { result ≡ retx_checked schedule t.now key.now (numbers_of new) }
 {
-    match find_key(t, key) {
-        Found::At(slot) => outside_tolerance(
-            schedule,
-            word(t, STATES, slot),
-            word(t, SEQUENCES, slot),
-            word(t, TIMES, slot),
-            st_num,
-            sq_num,
-            now_us,
-        ),
-        Found::Nothing => false,
+    match find(t, key) {
+        Some(slot) => outside_tolerance(schedule, numbers_at(t, slot), new),
+        None => false,
     }
 }
 
 // Checks a frame's numbers in the table of streams, and answers whether it is a replay.
-pub fn check_goose_seq_in(
-    t: &mut [u64],
-    key: &[u64; 10],
-    st_num: u32,
-    sq_num: u32,
-    now_us: u64,
-) -> bool
+pub fn check_goose_seq_in(t: &mut [u64], key: &[u64; 10], new: GooseNumbers<u32>) -> bool
     requires { length t.old ≡ 210 }
-    ensures { record { table = t.new; replay = result } ≡ goose_checked t.old key.now ((st_num, sq_num), now_us) }
+    ensures { record { table = t.new; replay = result } ≡ goose_checked t.old key.now (numbers_of new) }
 {
-    let place = enter_key(t, key);
+    let place = enter(t, key);
     let slot = place.slot;
-    let last_st_num = t[STATES + slot];
-    let last_sq_num = t[SEQUENCES + slot];
-    let last_us = t[TIMES + slot];
-    let replay = goose_replay(
-        place.known,
-        last_st_num,
-        last_sq_num,
-        last_us,
-        st_num,
-        sq_num,
-    );
-    t[STATES + slot] = number_or(replay, last_st_num, st_num as u64);
-    t[SEQUENCES + slot] = number_or(replay, last_sq_num, sq_num as u64);
-    t[TIMES + slot] = number_or(replay, last_us, now_us);
+    let last = numbers_at(t, slot);
+    let replay = goose_replay(place.known.then_some(last), new);
+    let kept = numbers_or(replay, last, new);
+    t[STATES + slot] = kept.st_num;
+    t[SEQUENCES + slot] = kept.sq_num;
+    t[TIMES + slot] = kept.timestamp_us;
     replay
 }

@@ -1,17 +1,10 @@
-// The keys of streams, reservations and publishers, and a flag as a word.
+// The keys of streams, reservations and publishers.
 ghost use Rattle.std.specs.Prelude.{◌≡◌, ◌≤◌, length};
 ghost use Rattle.records.specs.Name.{name_of};
-ghost use Rattle.checks.specs.Keys.{flag_word, plain_key, goose_key, reservation_key};
+ghost use Rattle.checks.specs.Keys.{plain_key, goose_key, reservation_key};
 
 use records::name::padded_octets;
 use tables::key::name_key;
-
-// A flag as a word.
-pub fn flag_word(flag: bool) -> u64
-    ensures { result ≡ flag_word flag }
-{
-    if flag { 1 } else { 0 }
-}
 
 // The key of a name that a frame states.
 pub fn plain_key(name: [u8; 64], len: u8) -> [u64; 10]
@@ -39,5 +32,5 @@ pub fn goose_key(address: u64, hash: u32) -> [u64; 10]
 pub fn reservation_key(is_goose: bool, name: [u8; 64], len: u8) -> [u64; 10]
     ensures { result ≡ reservation_key is_goose (name_of name len) }
 {
-    name_key(flag_word(is_goose), name, len)
+    name_key(u64::from(is_goose), name, len)
 }

@@ -3,9 +3,8 @@
 ghost use Rattle.std.specs.Prelude.{◌≡◌, ◌≤◌, length};
 ghost use Rattle.checks.specs.MmsRule.{has_bit, applies, first_rule, rule_read_only, rule_rate, with_mms_rule, mms_added};
 
-use crate::keys::flag_word;
-use crate::rules::{Added, add_answer, rule_count};
-use records::search::Found;
+use crate::rules::{add_answer, rule_count};
+use records::error::VsError;
 use tables::column::{set_word, word, word16};
 
 // Where read-only flags, rates and count stand, behind the masks.
@@ -19,38 +18,30 @@ const COUNT: usize = 48;
 pub fn has_bit(mask: u64, raw: u8) -> bool
     ensures { result ≡ has_bit mask raw }
 {
-    if raw >= 16 {
-        return false;
-    }
-    (mask >> raw) % 2 == 1
+    raw < 16 && (mask >> raw) % 2 == 1
 }
 
 // Whether a rule of this mask applies to a raw number.
 pub fn applies(mask: u64, raw: u8) -> bool
     ensures { result ≡ applies mask raw }
 {
-    if mask == 0xFFFF {
-        return true;
-    }
-    has_bit(mask, raw)
+    mask == 0xFFFF || has_bit(mask, raw)
 }
 
 // The place of the first rule that applies.
-pub fn first_rule(t: &[u64], raw: u8) -> Found
+pub fn first_rule(t: &[u64], raw: u8) -> Option<usize>
     requires { length t.now ≡ 49 }
     ensures { result ≡ first_rule t.now raw }
 {
     let n = rule_count(t[COUNT]);
-    let mut i: usize = 0;
-    loop {
-        if i >= n {
-            break Found::Nothing;
-        }
+    let mut place = None;
+    for i in 0..n {
         if applies(t[i], raw) {
-            break Found::At(i);
+            place = Some(i);
+            break;
         }
-        i += 1;
     }
+    place
 }
 
 // Whether the rule at a place is read-only.
@@ -75,22 +66,18 @@ fn store_mms_rule(t: &mut [u64], slot: usize, mask: u16, read_only: bool, rate: 
     ensures { t.new ≡ with_mms_rule t.old slot mask read_only rate }
 {
     set_word(t, 0, slot, mask as u64);
-    set_word(t, READ_ONLY, slot, flag_word(read_only));
+    set_word(t, READ_ONLY, slot, u64::from(read_only));
     set_word(t, RATES, slot, rate as u64);
     t[COUNT] = (slot as u64) + 1;
 }
 
 // Adds a rule; a refused one changes nothing.
-pub fn add_mms_rule_in(t: &mut [u64], mask: u16, read_only: bool, rate: u16) -> Added
+pub fn add_mms_rule_in(t: &mut [u64], mask: u16, read_only: bool, rate: u16) -> Result<(), VsError>
     requires { length t.old ≡ 49 }
     ensures { record { rules = t.new; answer = result } ≡ mms_added t.old mask read_only rate }
 {
     let count = t[COUNT];
-    match add_answer(count, 0) {
-        Added::Rule => {
-            store_mms_rule(t, rule_count(count), mask, read_only, rate);
-            Added::Rule
-        }
-        Added::Error(e) => Added::Error(e),
-    }
+    add_answer(count, 0)?;
+    store_mms_rule(t, rule_count(count), mask, read_only, rate);
+    Ok(())
 }

@@ -2,12 +2,13 @@
 // changed: a table by number.
 ghost use Rattle.std.specs.Prelude.{◌≡◌, ◌<◌, length};
 ghost use Rattle.records.specs.Bucket.{next_call};
-ghost use Rattle.tables.specs.Place.{if_known};
+ghost use Rattle.tables.specs.Place.{known_of};
 ghost use Rattle.checks.specs.Rate.{bucket_at, bucket_call, rate_checked};
 
 use records::bucket::{BucketCall, RateBucket};
 use tables::column::narrowed;
-use tables::numbered::{VALUES, enter_number};
+use tables::numbered::VALUES;
+use tables::place::enter;
 
 // Where tokens, capacity and time of last refill stand.
 const TOKENS: usize = VALUES;
@@ -36,21 +37,21 @@ fn lent_call(kept: RateBucket, now_us: u64) -> BucketCall
     let allowed = lent.try_consume(now_us);
     BucketCall {
         bucket: lent,
-        allowed: allowed,
+        allowed,
     }
 }
 
 // A request's call of its bucket, which is new where the request's key was not known.
-fn bucket_call(known: bool, kept: RateBucket, max_rate: u16, now_us: u64) -> BucketCall
-    ensures { result ≡ bucket_call (if_known known kept) (max_rate, now_us) }
+fn bucket_call(kept: Option<RateBucket>, max_rate: u16, now_us: u64) -> BucketCall
+    ensures { result ≡ bucket_call (known_of kept) (max_rate, now_us) }
 {
-    if !known {
-        return BucketCall {
-            allowed: true,
+    match kept {
+        Some(bucket) => lent_call(bucket, now_us),
+        None => BucketCall {
             bucket: RateBucket::first_call(max_rate, now_us),
-        };
+            allowed: true,
+        },
     }
-    lent_call(kept, now_us)
 }
 
 // Takes a request into the table of buckets, and answers whether it is within its rate. A new key's request is; an existing bucket keeps
@@ -59,10 +60,10 @@ pub fn rate_check_in(t: &mut [u64], key: u32, max_rate: u16, now_us: u64) -> boo
     requires { length t.old ≡ 66 }
     ensures { record { table = t.new; allowed = result } ≡ rate_checked t.old key max_rate now_us }
 {
-    let place = enter_number(t, key as u64);
+    let place = enter(t, &(key as u64));
     let slot = place.slot;
     let kept = bucket_at(t, slot);
-    let call = bucket_call(place.known, kept, max_rate, now_us);
+    let call = bucket_call(place.known.then_some(kept), max_rate, now_us);
     let bucket = call.bucket;
     t[TOKENS + slot] = bucket.tokens as u64;
     t[CAPACITIES + slot] = bucket.capacity as u64;

@@ -4,10 +4,10 @@ ghost use Rattle.std.specs.Prelude.{◌≡◌, ◌+◌, ◌≤◌, ◌<◌, leng
 ghost use Rattle.tables.specs.Packed.{packed};
 ghost use Rattle.checks.specs.Reservation.{bound_at, cb_checked, place_for, taken_at, reserved, owned_slot, freed_rank, all_freed, released};
 
-use records::search::Found;
 use tables::column::{set_word, word};
-use tables::named::{KEYS, VALUES, find_key, has_key, store_key};
+use tables::named::VALUES;
 use tables::order::{free_slot, rank_at, set_rank};
+use tables::place::{Key, find};
 
 // Where the clients stand, whether a reservation is bound, and to which address.
 const OWNERS: usize = VALUES;
@@ -37,20 +37,21 @@ pub fn check_cb_in(t: &mut [u64], key: &[u64; 10], address: u64) -> bool
     if key[1] == 0 {
         return false;
     }
-    match find_key(t, key) {
-        Found::At(i) => bind_at(t, i, address),
-        Found::Nothing => false,
+    match find(t, key) {
+        Some(i) => bind_at(t, i, address),
+        None => false,
     }
 }
 
-// The slot that a SelectControl takes: the one of that name and kind, or the first free one.
-fn place_for(t: &[u64], key: &[u64; 10]) -> Found
+// The slot that a SelectControl takes: the one of that name and kind, or the first free one. A closure for `or_else` would state the contract of
+// `free_slot` again.
+fn place_for(t: &[u64], key: &[u64; 10]) -> Option<usize>
     requires { length t.now ≡ 210 }
     ensures { result ≡ place_for t.now key.now }
 {
-    match find_key(t, key) {
-        Found::At(i) => Found::At(i),
-        Found::Nothing => free_slot(t),
+    match find(t, key) {
+        Some(i) => Some(i),
+        None => free_slot(t),
     }
 }
 
@@ -59,7 +60,7 @@ fn take_at(t: &mut [u64], slot: usize, key: &[u64; 10], client: u32)
     requires { length t.old ≡ 210 }
     ensures { t.new ≡ taken_at t.old slot key.now client }
 {
-    store_key(t, KEYS, slot, key);
+    key.store_at(t, slot);
     set_rank(t, slot, 0);
     set_word(t, OWNERS, slot, client as u64);
     set_word(t, BOUND, slot, 0);
@@ -71,30 +72,26 @@ pub fn reserve_cb_in(t: &mut [u64], key: &[u64; 10], client: u32) -> bool
     requires { length t.old ≡ 210 }
     ensures { record { table = t.new; taken = result } ≡ reserved t.old key.now client }
 {
-    match place_for(t, key) {
-        Found::At(i) => {
-            take_at(t, i, key, client);
-            true
-        }
-        Found::Nothing => false,
-    }
+    let Some(i) = place_for(t, key) else {
+        return false;
+    };
+    take_at(t, i, key, client);
+    true
 }
 
 // The first slot in use with this client's reservation of this name and kind.
-fn owned_slot(t: &[u64], key: &[u64; 10], client: u32) -> Found
+fn owned_slot(t: &[u64], key: &[u64; 10], client: u32) -> Option<usize>
     requires { length t.now ≡ 210 }
     ensures { result ≡ owned_slot t.now key.now client }
 {
-    let mut i: usize = 0;
-    loop {
-        if i >= 16 {
-            break Found::Nothing;
+    let mut place = None;
+    for i in 0..16 {
+        if key.is_at(t, i) && rank_at(t, i) < 16 && t[OWNERS + i] == (client as u64) {
+            place = Some(i);
+            break;
         }
-        if has_key(t, KEYS, i, key) && rank_at(t, i) < 16 && t[OWNERS + i] == (client as u64) {
-            break Found::At(i);
-        }
-        i += 1;
     }
+    place
 }
 
 // The rank of a slot, 16 if its client is this one.
@@ -114,9 +111,7 @@ fn freed_word(t: &[u64], start: usize, client: u32) -> u64
     ensures { result ≡ packed (λ j. freed_rank t.now client (start + j)) 8 }
 {
     let mut out: u64 = 0;
-    let mut k: usize = 8;
-    while k > 0 {
-        k -= 1;
+    for k in (0..8).rev() {
         out = freed_rank(t, start + k, client) + 256 * out;
     }
     out
@@ -142,8 +137,7 @@ pub fn release_cb_in(t: &mut [u64], key: &[u64; 10], client: u32)
         free_all(t, client);
         return;
     }
-    match owned_slot(t, key, client) {
-        Found::At(i) => set_rank(t, i, 16),
-        Found::Nothing => {}
+    if let Some(i) = owned_slot(t, key, client) {
+        set_rank(t, i, 16);
     }
 }

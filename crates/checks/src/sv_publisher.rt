@@ -4,8 +4,8 @@ ghost use Rattle.std.specs.Prelude.{◌≡◌, ◌≤◌, length};
 ghost use Rattle.checks.specs.SvPublisher.{match_at, sv_publisher, publisher_rate, with_sv_publisher, sv_added};
 
 use crate::keys::publisher_key;
-use crate::rules::{Added, PUBLISHER_KEYS, add_answer, rule_count};
-use records::search::Found;
+use crate::rules::{PUBLISHER_KEYS, add_answer, rule_count};
+use records::error::VsError;
 use tables::column::{set_word, word16};
 use tables::named::{has_key, store_key};
 
@@ -14,47 +14,39 @@ const RATES: usize = 176;
 
 const COUNT: usize = 192;
 
-// How a frame's svID and address match the rules: fitting, at the last place that fits.
+// Why no rule fits a frame's svID and address.
 #[derive(Clone, Copy)]
-pub enum PublisherMatch {
+pub enum PublisherMismatch {
     NotRegistered,
     WrongAddress,
-    Fits(usize),
 }
 
 // The last place that fits, or why there is none.
-fn match_at(is_registered: bool, place: Found) -> PublisherMatch
+fn match_at(is_registered: bool, place: Option<usize>) -> Result<usize, PublisherMismatch>
     ensures { result ≡ match_at is_registered place }
 {
-    match place {
-        Found::At(i) => PublisherMatch::Fits(i),
-        Found::Nothing => {
-            if is_registered {
-                PublisherMatch::WrongAddress
-            } else {
-                PublisherMatch::NotRegistered
-            }
-        }
-    }
+    place.ok_or(if is_registered {
+        PublisherMismatch::WrongAddress
+    } else {
+        PublisherMismatch::NotRegistered
+    })
 }
 
 // How an svID and an address match the rules. Every rule is compared, since the last that fits counts.
-pub fn sv_publisher(t: &[u64], address: u64, svid: &[u64; 10]) -> PublisherMatch
+pub fn sv_publisher(t: &[u64], address: u64, svid: &[u64; 10]) -> Result<usize, PublisherMismatch>
     requires { length t.now ≡ 193 }
     ensures { result ≡ sv_publisher t.now address svid.now }
 {
     let n = rule_count(t[COUNT]);
     let mut is_registered = false;
-    let mut place = Found::Nothing;
-    let mut i: usize = 0;
-    while i < n {
+    let mut place = None;
+    for i in 0..n {
         if has_key(t, PUBLISHER_KEYS, i, svid) {
             is_registered = true;
             if t[i] == address {
-                place = Found::At(i);
+                place = Some(i);
             }
         }
-        i += 1;
     }
     match_at(is_registered, place)
 }
@@ -79,17 +71,18 @@ fn store_sv_publisher(t: &mut [u64], slot: usize, address: u64, svid: &[u64; 10]
 }
 
 // Adds a rule; a refused one changes nothing.
-pub fn add_sv_publisher_in(t: &mut [u64], address: u64, svid: &[u8], rate: u16) -> Added
+pub fn add_sv_publisher_in(
+    t: &mut [u64],
+    address: u64,
+    svid: &[u8],
+    rate: u16,
+) -> Result<(), VsError>
     requires { length t.old ≡ 193 }
     ensures { record { rules = t.new; answer = result } ≡ sv_added t.old address svid.now rate }
 {
     let count = t[COUNT];
-    match add_answer(count, svid.len()) {
-        Added::Rule => {
-            let key = publisher_key(svid);
-            store_sv_publisher(t, rule_count(count), address, &key, rate);
-            Added::Rule
-        }
-        Added::Error(e) => Added::Error(e),
-    }
+    add_answer(count, svid.len())?;
+    let key = publisher_key(svid);
+    store_sv_publisher(t, rule_count(count), address, &key, rate);
+    Ok(())
 }

@@ -1,10 +1,11 @@
 // SV streams, carried over from industrial/iec61850-monitor/src/lib.rs of craton-shield a31d888527 (Apache-2.0) and changed: a table by
 // name; no flag for a stream without a count, since there is none, and no time, which nothing reads.
 ghost use Rattle.std.specs.Prelude.{◌≡◌, length};
-ghost use Rattle.tables.specs.Place.{if_known};
+ghost use Rattle.tables.specs.Place.{known_of};
 ghost use Rattle.checks.specs.SvSeq.{count_outcome, sv_outcome, outcome_number, is_replay, count_or, sv_checked};
 
-use tables::named::{VALUES, enter_key};
+use tables::named::VALUES;
+use tables::place::enter;
 
 // What a count says of its stream. A gap is how many counts it went forward.
 #[derive(Clone, Copy)]
@@ -34,7 +35,7 @@ impl SvSeqOutcome {
     pub fn is_replay(self) -> bool
         ensures { result ≡ is_replay self }
     {
-        self.number() == 1
+        matches!(self, SvSeqOutcome::Replay)
     }
 }
 
@@ -60,13 +61,13 @@ fn count_outcome(last: u64, smp_cnt: u16) -> SvSeqOutcome
 }
 
 // What a count says after the last one of its stream, if the stream is known.
-fn sv_outcome(known: bool, last: u64, smp_cnt: u16) -> SvSeqOutcome
-    ensures { result ≡ sv_outcome (if_known known last) smp_cnt }
+fn sv_outcome(last: Option<u64>, smp_cnt: u16) -> SvSeqOutcome
+    ensures { result ≡ sv_outcome (known_of last) smp_cnt }
 {
-    if !known {
-        return SvSeqOutcome::FirstSeen;
+    match last {
+        Some(last) => count_outcome(last, smp_cnt),
+        None => SvSeqOutcome::FirstSeen,
     }
-    count_outcome(last, smp_cnt)
 }
 
 // The count to keep: a replay keeps the last one.
@@ -81,10 +82,10 @@ pub fn check_sv_seq_in(t: &mut [u64], svid: &[u64; 10], smp_cnt: u16) -> SvSeqOu
     requires { length t.old ≡ 178 }
     ensures { record { table = t.new; outcome = result } ≡ sv_checked t.old svid.now smp_cnt }
 {
-    let place = enter_key(t, svid);
+    let place = enter(t, svid);
     let slot = place.slot;
     let last = t[VALUES + slot];
-    let outcome = sv_outcome(place.known, last, smp_cnt);
+    let outcome = sv_outcome(place.known.then_some(last), smp_cnt);
     t[VALUES + slot] = count_or(outcome.is_replay(), last, smp_cnt);
     outcome
 }

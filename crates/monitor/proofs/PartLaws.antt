@@ -9,10 +9,10 @@ use native.Mathlib.Omega.{arith}
 use borrow.Author.Tests.{eq-eqb, ne_eqb}
 use borrow.Rule.Slice.PartMut.{put_mid}
 use lib.Dec.{eqb}
-use lib.ListN.{length, take, drop, get_or, take-append-drop, length-drop}
-use lib.Seq.{take-append-le, drop-append-le, take_at, drop_at, drop-drop, get_or-take, get_or-drop, length-take-le}
-use Rattle.monitor.specs.Monitor.{Monitor, monitor_of, with_part, with_settings, with_totals, with_mms_rules, with_goose_publishers}
-use Rattle.monitor.specs.Monitor.{with_sv_publishers, with_rate_buckets, with_goose_seq, with_sv_seq, with_time_trackers, with_cb_reservations}
+use lib.ListN.{length, take, drop, get_or, set, take-append-drop, length-drop}
+use Rattle.std.proofs.lemmas.List.{drop-set-lt, drop-set-add, take-set-le}
+use lib.Seq.{take-set-lt, take-append-le, drop-append-le, take_at, drop_at, drop-drop, get_or-take, get_or-drop, length-take-le}
+use Rattle.monitor.specs.Monitor.{Monitor, monitor_of, with_part, with_settings, with_totals}
 use Rattle.monitor.specs.Parts.{after}
 
 -- the n words from a on are replaced by t
@@ -54,10 +54,10 @@ part_word l a n i h = get_or-take n (drop a l) i 0 h ∙ get_or-drop a l i 0
 -- ---- a part lent and back
 
 -- the sizes of the parts, and where each begins
-abbrev size_of : ℕ → ℕ
+abbrev pub size_of : ℕ → ℕ
 size_of k = get_or (10 ∷ 5 ∷ 49 ∷ 177 ∷ 193 ∷ 66 ∷ 210 ∷ 178 ∷ 50 ∷ 210 ∷ []) k 0
 
-abbrev first_of : ℕ → ℕ
+abbrev pub first_of : ℕ → ℕ
 first_of zero = 0
 first_of (suc k) = first_of k + size_of k
 
@@ -85,7 +85,7 @@ module _ (l t : List ℕ) (z : length l ≡ 1148) (k : ℕ) (h : k < 10) (y : le
       go (no n) (yes d) = rw (ne_eqb k j n) (mid_before l t (first_of k) (size_of k) inside y (first_of j) (size_of j) (in_order j k d))
       go (no n) (no d) = rw (ne_eqb k j n) (mid_behind l t (first_of k) (size_of k) inside y (first_of j) (size_of j) (in_order k j (omega (arith, n, d))))
 
-  part_back : monitor_of (put_mid (first_of k) (size_of k) l t) ≡ with_part k (monitor_of l) t
+  pub part_back : monitor_of (put_mid (first_of k) (size_of k) l t) ≡ with_part k (monitor_of l) t
   unfolding monitor_of
   part_back =
       λ i. record {
@@ -101,39 +101,57 @@ module _ (l t : List ℕ) (z : length l ≡ 1148) (k : ℕ) (h : k < 10) (y : le
         cb_reservations = part_after 9 i;
       }
 
--- each by its name
-module _ (l t : List ℕ) (z : length l ≡ 1148) where
-  pub settings_back : length t ≡ 10 → monitor_of (put_mid 0 10 l t) ≡ with_settings (monitor_of l) t
-  settings_back = part_back l t z 0 (omega arith)
-
-  pub totals_back : length t ≡ 5 → monitor_of (put_mid 10 5 l t) ≡ with_totals (monitor_of l) t
-  totals_back = part_back l t z 1 (omega arith)
-
-  pub mms_rules_back : length t ≡ 49 → monitor_of (put_mid 15 49 l t) ≡ with_mms_rules (monitor_of l) t
-  mms_rules_back = part_back l t z 2 (omega arith)
-
-  pub goose_publishers_back : length t ≡ 177 → monitor_of (put_mid 64 177 l t) ≡ with_goose_publishers (monitor_of l) t
-  goose_publishers_back = part_back l t z 3 (omega arith)
-
-  pub sv_publishers_back : length t ≡ 193 → monitor_of (put_mid 241 193 l t) ≡ with_sv_publishers (monitor_of l) t
-  sv_publishers_back = part_back l t z 4 (omega arith)
-
-  pub rate_buckets_back : length t ≡ 66 → monitor_of (put_mid 434 66 l t) ≡ with_rate_buckets (monitor_of l) t
-  rate_buckets_back = part_back l t z 5 (omega arith)
-
-  pub goose_seq_back : length t ≡ 210 → monitor_of (put_mid 500 210 l t) ≡ with_goose_seq (monitor_of l) t
-  goose_seq_back = part_back l t z 6 (omega arith)
-
-  pub sv_seq_back : length t ≡ 178 → monitor_of (put_mid 710 178 l t) ≡ with_sv_seq (monitor_of l) t
-  sv_seq_back = part_back l t z 7 (omega arith)
-
-  pub time_trackers_back : length t ≡ 50 → monitor_of (put_mid 888 50 l t) ≡ with_time_trackers (monitor_of l) t
-  time_trackers_back = part_back l t z 8 (omega arith)
-
-  pub cb_reservations_back : length t ≡ 210 → monitor_of (put_mid 938 210 l t) ≡ with_cb_reservations (monitor_of l) t
-  cb_reservations_back = part_back l t z 9 (omega arith)
-
 -- a check of a part that is lent, and comes back
-pub lent : {A C : Type 0} (with_part : List ℕ → Monitor) (part : C → List ℕ) (answer : C → A) {m : Monitor} {c c' : C} → m ≡ with_part (part c) → c ≡ c'
-    → record { monitor = m; answer = answer c } ≡ after with_part part answer c'
-lent with_part part answer {c = c} b e = (λ i. record { monitor = b i; answer = answer c }) ∙ ap (after with_part part answer) e
+pub part_checked :
+    {A C : Type 0} (k : ℕ) (part : C → List ℕ) (answer : C → A) (l : List ℕ) {c c' : C} → k < 10 → length l ≡ 1148 → length (part c) ≡ size_of k → c ≡ c'
+    → record { monitor = monitor_of (put_mid (first_of k) (size_of k) l (part c)); answer = answer c } ≡ after (with_part k (monitor_of l)) part answer c'
+part_checked k part answer l {c = c} h z y e =
+    let b = part_back l (part c) z k h y in
+    (λ i. record { monitor = b i; answer = answer c }) ∙ ap (after (with_part k (monitor_of l)) part answer) e
+
+-- ---- a word of a part set
+
+module _ (l : List ℕ) (k i v : ℕ) (w : i < size_of k) where
+  word_after : (j : ℕ) → take (size_of j) (drop (first_of j) (set l (first_of k + i) v))
+      ≡ cond (eqb k j) (set (take (size_of k) (drop (first_of k) l)) i v) (take (size_of j) (drop (first_of j) l))
+  word_after j = go (ℕ_discrete k j) (dec_lt j k)
+    where
+      go : Dec (k ≡ j) → Dec (j < k) → take (size_of j) (drop (first_of j) (set l (first_of k + i) v))
+          ≡ cond (eqb k j) (set (take (size_of k) (drop (first_of k) l)) i v) (take (size_of j) (drop (first_of j) l))
+      go (yes e) d = rw (eq-eqb k j e, ← e, drop-set-add (first_of k) l i v) (take-set-lt (size_of k) (drop (first_of k) l) i v w)
+      go (no n) (yes d) =
+          let r = in_order j k d in
+          let at : first_of k + i ≡ first_of j + (first_of k - first_of j + i) = omega arith in
+          rw (ne_eqb k j n, at, drop-set-add (first_of j) l (first_of k - first_of j + i) v)
+          (take-set-le (size_of j) (drop (first_of j) l) (first_of k - first_of j + i) v (omega arith))
+      go (no n) (no d) =
+          let r = in_order k j (omega (arith, n, d)) in
+          rw (ne_eqb k j n) (ap (take (size_of j)) (drop-set-lt (first_of j) l (first_of k + i) v (omega arith)))
+
+  word_here : monitor_of (set l (first_of k + i) v) ≡ with_part k (monitor_of l) (set (take (size_of k) (drop (first_of k) l)) i v)
+  unfolding monitor_of
+  word_here =
+      λ x. record {
+        settings = word_after 0 x;
+        totals = word_after 1 x;
+        mms_rules = word_after 2 x;
+        goose_publishers = word_after 3 x;
+        sv_publishers = word_after 4 x;
+        rate_buckets = word_after 5 x;
+        goose_seq = word_after 6 x;
+        sv_seq = word_after 7 x;
+        time_trackers = word_after 8 x;
+        cb_reservations = word_after 9 x;
+      }
+
+-- a setting and a total set, in a monitor that has come so far
+module _ (l : List ℕ) {m : Monitor} (e : monitor_of l ≡ m) (i v : ℕ) where
+  pub setting_back : i < 10 → monitor_of (set l i v) ≡ with_settings m (set m.settings i v)
+  unfolding monitor_of
+  setting_back h =
+      let at : i ≡ 0 + i = omega arith in
+      ap (λ (x : ℕ). monitor_of (set l x v)) at ∙ word_here l 0 i v h ∙ ap (λ (n : Monitor). with_settings n (set n.settings i v)) e
+
+  pub total_back : i < 5 → monitor_of (set l (10 + i) v) ≡ with_totals m (set m.totals i v)
+  unfolding monitor_of
+  total_back h = word_here l 1 i v h ∙ ap (λ (n : Monitor). with_totals n (set n.totals i v)) e

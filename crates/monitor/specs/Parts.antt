@@ -1,6 +1,6 @@
 -- Each check and add call on its part of the monitor: the monitor with the part that it leaves, and its answer.
-use Rattle.std.specs.Prelude.{ℕ, Bool, List}
-use Rattle.checks.specs.declared.rules.Added.{Added}
+use Rattle.std.specs.Prelude.{ℕ, Bool, List, Result}
+use Rattle.records.specs.declared.error.VsError.{VsError}
 use Rattle.checks.specs.declared.sv_seq.SvSeqOutcome.{SvSeqOutcome}
 use Rattle.checks.specs.GoosePublisher.{goose_added}
 use Rattle.checks.specs.GooseSeq.{goose_checked}
@@ -49,11 +49,11 @@ unfoldable pub released_on : Monitor → List ℕ → ℕ → Monitor
 released_on m key client = with_cb_reservations m (released m.cb_reservations key client)
 
 -- the add calls (01, "Rules"; refusals 1 and 2)
-unfoldable pub mms_added_on : Monitor → ℕ → Bool → ℕ → After Added
+unfoldable pub mms_added_on : Monitor → ℕ → Bool → ℕ → After (Result (Unit {0}) VsError)
 mms_added_on m mask read_only rate = after (with_mms_rules m) (λ c. c.rules) (λ c. c.answer) (mms_added m.mms_rules mask read_only rate)
 
-unfoldable pub goose_added_on : Monitor → ℕ → List ℕ → After Added
+unfoldable pub goose_added_on : Monitor → ℕ → List ℕ → After (Result (Unit {0}) VsError)
 goose_added_on m address name = after (with_goose_publishers m) (λ c. c.rules) (λ c. c.answer) (goose_added m.goose_publishers address name)
 
-unfoldable pub sv_added_on : Monitor → ℕ → List ℕ → ℕ → After Added
+unfoldable pub sv_added_on : Monitor → ℕ → List ℕ → ℕ → After (Result (Unit {0}) VsError)
 sv_added_on m address svid rate = after (with_sv_publishers m) (λ c. c.rules) (λ c. c.answer) (sv_added m.sv_publishers address svid rate)

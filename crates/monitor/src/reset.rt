@@ -13,64 +13,34 @@ use crate::parts::{
 };
 use crate::settings::{STRICT_MODE, set_retx_schedule_on, set_setting};
 use crate::totals::NEXT_ALERT_ID;
-use checks::keys::flag_word;
 use records::schedule::RetxSchedule;
 use tables::column::zero_words;
 use tables::order::clear;
 
 // Nothing inspected, and the first alert gets number 1.
-fn zero_totals(t: &mut [u64])
-    requires { length t.old ≡ 5 }
-    ensures { t.new ≡ new_totals }
-{
-    zero_words(t);
-    t[NEXT_ALERT_ID] = 1;
-}
-
-fn new_totals_lent(m: &mut [u64])
-    requires { length m.old ≡ 1148 }
-    ensures { monitor_of m.new ≡ with_totals (monitor_of m.old) new_totals }
-{
-    zero_totals(&mut m[TOTALS..MMS_RULES]);
-}
-
 fn new_totals(m: &mut [u64; WORDS])
     ensures { monitor_of m.new ≡ with_totals (monitor_of m.old) new_totals }
 {
-    new_totals_lent(m);
+    zero_words(&mut m[TOTALS..MMS_RULES]);
+    m[TOTALS + NEXT_ALERT_ID] = 1;
 }
 
-// Sets the words of a part to 0.
-fn zero_part_lent(m: &mut [u64], start: usize, end: usize)
-    requires { (start ≤ end) × (end ≤ length m.old) }
-    ensures { m.new ≡ put_mid start (end - start) m.old (zero_words (end - start)) }
-{
-    zero_words(&mut m[start..end]);
-}
-
-// The contract says the length too, which a reference to an array does not tell a caller's proof.
+// Sets the words of a part to 0. The contract says the length too, which a reference to an array does not tell a caller's proof.
 fn zero_part(m: &mut [u64; WORDS], start: usize, end: usize)
     requires { (start ≤ end) × (end ≤ 1148) }
     ensures { (length m.old ≡ 1148)
         × (m.new ≡ put_mid start (end - start) m.old (zero_words (end - start))) }
 {
-    zero_part_lent(m, start, end);
+    zero_words(&mut m[start..end]);
 }
 
 // Makes a part a table without entries.
-fn clear_part_lent(m: &mut [u64], start: usize, end: usize)
-    requires { (start ≤ end) × (end ≤ length m.old) }
-    ensures { m.new ≡ put_mid start (end - start) m.old (no_entries (end - start)) }
-{
-    clear(&mut m[start..end]);
-}
-
 fn clear_part(m: &mut [u64; WORDS], start: usize, end: usize)
     requires { (start ≤ end) × (end ≤ 1148) }
     ensures { (length m.old ≡ 1148)
         × (m.new ≡ put_mid start (end - start) m.old (no_entries (end - start))) }
 {
-    clear_part_lent(m, start, end);
+    clear(&mut m[start..end]);
 }
 
 // As new but for the settings: rules, tables, reservations and totals are gone.
@@ -93,7 +63,7 @@ pub fn new_on(m: &mut [u64; WORDS], strict: bool)
     ensures { monitor_of m.new ≡ new_monitor strict }
 {
     zero_part(m, 0, TOTALS);
-    set_setting(m, STRICT_MODE, flag_word(strict));
+    set_setting(m, STRICT_MODE, u64::from(strict));
     let schedule = RetxSchedule::default_8_1();
     set_retx_schedule_on(m, schedule, false);
     reset_on(m);

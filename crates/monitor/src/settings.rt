@@ -1,13 +1,12 @@
 // Settings, carried over from industrial/iec61850-monitor/src/lib.rs of craton-shield a31d888527 (Apache-2.0) and changed: ten words, which the set
 // calls store in place.
-ghost use Rattle.std.specs.Prelude.{◌≡◌, ◌<◌, min, ◌-◌, ◌^◌, length, set};
+ghost use Rattle.std.specs.Prelude.{◌≡◌, ◌<◌, min, ◌-◌, ◌^◌};
 ghost use Rattle.monitor.specs.Monitor.{monitor_of};
 ghost use Rattle.monitor.specs.Settings.{setting_set, set_mms_service_mask, set_mms_read_only, set_block_test_frames};
 ghost use Rattle.monitor.specs.Settings.{set_sv_max_smp_cnt_gap, set_retx_schedule, set_time_max_forward_jump};
 ghost use Rattle.monitor.specs.Settings.{setting, setting_flag, retx_schedule, time_max_forward_jump};
 
-use crate::parts::{TOTALS, WORDS};
-use checks::keys::flag_word;
+use crate::parts::WORDS;
 use records::schedule::RetxSchedule;
 
 // Where each setting stands.
@@ -32,25 +31,11 @@ pub const TIME_MAX_FORWARD_JUMP_S: usize = 8;
 pub const SV_MAX_SMP_CNT_GAP: usize = 9;
 
 // Sets one of the settings.
-fn store_setting(s: &mut [u64], place: usize, v: u64)
-    requires { (length s.old ≡ 10) × (place < 10) }
-    ensures { s.new ≡ set s.old place v }
-{
-    s[place] = v;
-}
-
-fn set_setting_lent(m: &mut [u64], place: usize, v: u64)
-    requires { (length m.old ≡ 1148) × (place < 10) }
-    ensures { monitor_of m.new ≡ setting_set (monitor_of m.old) place v }
-{
-    store_setting(&mut m[0..TOTALS], place, v);
-}
-
 pub fn set_setting(m: &mut [u64; WORDS], place: usize, v: u64)
     requires { place < 10 }
     ensures { monitor_of m.new ≡ setting_set (monitor_of m.old) place v }
 {
-    set_setting_lent(m, place, v);
+    m[place] = v;
 }
 
 // Bit n of the mask allows the service of raw number n; 0 filters none.
@@ -64,14 +49,14 @@ pub fn set_mms_service_mask_on(m: &mut [u64; WORDS], mask: u16)
 pub fn set_mms_read_only_on(m: &mut [u64; WORDS], read_only: bool)
     ensures { monitor_of m.new ≡ set_mms_read_only (monitor_of m.old) read_only }
 {
-    set_setting(m, MMS_READ_ONLY, flag_word(read_only));
+    set_setting(m, MMS_READ_ONLY, u64::from(read_only));
 }
 
 // Whether GOOSE test frames are refused.
 pub fn set_block_test_frames_on(m: &mut [u64; WORDS], block: bool)
     ensures { monitor_of m.new ≡ set_block_test_frames (monitor_of m.old) block }
 {
-    set_setting(m, BLOCK_TEST_FRAMES, flag_word(block));
+    set_setting(m, BLOCK_TEST_FRAMES, u64::from(block));
 }
 
 // The largest gap of smpCnt that is accepted; 0 accepts any.
@@ -88,7 +73,7 @@ pub fn set_retx_schedule_on(m: &mut [u64; WORDS], schedule: RetxSchedule, enforc
     set_setting(m, RETX_INITIAL_US, schedule.initial_us as u64);
     set_setting(m, RETX_T_MAX_US, schedule.t_max_us as u64);
     set_setting(m, RETX_TOLERANCE_PCT, schedule.tolerance_pct as u64);
-    set_setting(m, RETX_ENFORCE, flag_word(enforce));
+    set_setting(m, RETX_ENFORCE, u64::from(enforce));
 }
 
 // How many seconds a clock may go ahead from one frame to the next; 0 for any. Going back always alerts.
@@ -118,20 +103,14 @@ pub fn flag_on(m: &[u64; WORDS], place: usize) -> bool
 fn word32(word: u64) -> u32
     ensures { result ≡ min word (2 ^ 32 - 1) }
 {
-    if word < 0xffff_ffff {
-        return word as u32;
-    }
-    0xffff_ffff
+    u32::try_from(word).unwrap_or(u32::MAX)
 }
 
 // The most that 8 bits hold if a word has more.
 fn word8(word: u64) -> u8
     ensures { result ≡ min word 255 }
 {
-    if word < 255 {
-        return word as u8;
-    }
-    255
+    u8::try_from(word).unwrap_or(u8::MAX)
 }
 
 // The schedule of retransmissions.

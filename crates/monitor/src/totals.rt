@@ -1,10 +1,9 @@
 // Totals, carried over from industrial/iec61850-monitor/src/lib.rs of craton-shield a31d888527 (Apache-2.0) and changed: five words, counted in place.
-ghost use Rattle.std.specs.Prelude.{◌≡◌, ◌<◌, length, get_or, set};
-ghost use Rattle.records.specs.Counter.{saturated};
+ghost use Rattle.std.specs.Prelude.{◌≡◌, ◌<◌};
 ghost use Rattle.monitor.specs.Monitor.{monitor_of};
 ghost use Rattle.monitor.specs.Totals.{total, alert_counters, frame_counted, with_alerts};
 
-use crate::parts::{MMS_RULES, TOTALS, WORDS};
+use crate::parts::{TOTALS, WORDS};
 use records::counter::saturating_increment;
 use records::result::AlertCounters;
 
@@ -37,47 +36,18 @@ pub fn alert_counters_on(m: &[u64; WORDS]) -> AlertCounters
     }
 }
 
-// One more of a total.
-fn count_in(t: &mut [u64], place: usize)
-    requires { (length t.old ≡ 5) × (place < 5) }
-    ensures { t.new ≡ set t.old place (saturated (get_or t.old place 0)) }
-{
-    t[place] = saturating_increment(t[place]);
-}
-
-fn count_frame_lent(m: &mut [u64], place: usize)
-    requires { (length m.old ≡ 1148) × (place < 5) }
-    ensures { monitor_of m.new ≡ frame_counted (monitor_of m.old) place }
-{
-    count_in(&mut m[TOTALS..MMS_RULES], place);
-}
-
 // Counts a frame.
 pub fn count_frame_on(m: &mut [u64; WORDS], place: usize)
     requires { place < 5 }
     ensures { monitor_of m.new ≡ frame_counted (monitor_of m.old) place }
 {
-    count_frame_lent(m, place);
+    m[TOTALS + place] = saturating_increment(m[TOTALS + place]);
 }
 
 // Stores the alerts' counters.
-fn store_counters(t: &mut [u64], counters: AlertCounters)
-    requires { length t.old ≡ 5 }
-    ensures { t.new ≡ set (set t.old 3 counters.next_alert_id) 4 counters.total_alerts }
-{
-    t[NEXT_ALERT_ID] = counters.next_alert_id;
-    t[TOTAL_ALERTS] = counters.total_alerts;
-}
-
-fn set_alert_counters_lent(m: &mut [u64], counters: AlertCounters)
-    requires { length m.old ≡ 1148 }
-    ensures { monitor_of m.new ≡ with_alerts (monitor_of m.old) counters }
-{
-    store_counters(&mut m[TOTALS..MMS_RULES], counters);
-}
-
 pub fn set_alert_counters_on(m: &mut [u64; WORDS], counters: AlertCounters)
     ensures { monitor_of m.new ≡ with_alerts (monitor_of m.old) counters }
 {
-    set_alert_counters_lent(m, counters);
+    m[TOTALS + NEXT_ALERT_ID] = counters.next_alert_id;
+    m[TOTALS + TOTAL_ALERTS] = counters.total_alerts;
 }

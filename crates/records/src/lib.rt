@@ -11,6 +11,5 @@ pub mod name;
 pub mod octets;
 pub mod result;
 pub mod schedule;
-pub mod search;
 pub mod service;
 pub mod verdict;

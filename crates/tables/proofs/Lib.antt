@@ -2,7 +2,6 @@ pub mod PackedLaws
 pub mod RankWordLaws
 pub mod OrderLaws
 pub mod PlaceLaws
-pub mod NumberedLaws
 pub mod NamedLaws
 pub mod KeyLaws
 pub mod RankOrder

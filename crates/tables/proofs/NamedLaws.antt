@@ -1,14 +1,64 @@
--- Laws of tables by name: the ways that a comparison of keys goes, and that a slot that has a key is not changed by storing it.
-use Rattle.std.proofs.Common.{◌≡◌, ℕ, ◌+◌, ◌*◌, ◌<◌, ◌≤◌, Bool, true, false, eqb, ltb, List, get_or, set, sym, ap, ◌∙◌, le-ltb, lt-ltb, eq-eqb, ne_eqb, eqb-true}
-use lib.Seq.{set-get_or}
-use Rattle.records.proofs.Booleans.{cond_yes, and_both, and_yes, and_no}
-use Rattle.records.proofs.NameLaws.{agree_at, overwritten_again}
+-- Laws of tables by name: words stored at once, and the ways that a comparison of keys goes.
+use Rattle.std.proofs.Common.{◌≡◌, ℕ, ◌+◌, ◌-◌, ◌*◌, ◌<◌, ◌≤◌, Bool, false, List, ◌++◌, length, get_or, take, drop, sym, ap, ◌∙◌, arith, length-append, length-drop, length-take-le, get_or-append-add, get_or-drop, get_or-take, ext_get_or, le-ltb, lt-ltb, eq-eqb, ne_eqb}
+use native.Mathlib.Decide.{dec_lt}
+use borrow.Rule.Slice.PartMut.{put_mid}
+use lib.ListN.{get_or-append}
+use Rattle.records.proofs.Booleans.{and_yes, and_no}
+use Rattle.records.proofs.NameLaws.{length_overwritten, overwritten_in, overwritten_out}
 use Rattle.records.specs.Octets.{agree, overwritten}
-use Rattle.tables.specs.Named.{has_key, key_stored}
+use Rattle.tables.specs.Named.{has_key}
 
--- what agrees up to k agrees up to n, where k is n
-pub agree_upto : (f g : ℕ → ℕ) (k n : ℕ) → agree f g k ≡ true → k ≡ n → true ≡ agree f g n
-agree_upto f g k n e q = sym e ∙ ap (agree f g) q
+-- words stored at once, and each
+module _ (l p : List ℕ) (start n : ℕ) (f : ℕ → ℕ) (h : start + n ≤ length l) (z : length p ≡ n) (e : (k : ℕ) → k < n → get_or p k 0 ≡ f k) where
+  before : length (take start l) ≡ start
+  before = length-take-le start l (omega arith)
+
+  length_mid : length (put_mid start n l p) ≡ length l
+  length_mid = omega (
+    arith,
+    before,
+    length-append (take start l) (p ++ drop n (drop start l)),
+    length-append p (drop n (drop start l)),
+    length-drop start l,
+    length-drop n (drop start l),
+  )
+
+  pub words_written : put_mid start n l p ≡ overwritten l start f n
+  words_written = ext_get_or 0 _ _ (length_mid ∙ sym (length_overwritten l f start n)) (λ k w. go k w (dec_lt k start) (dec_lt k (start + n)))
+    where
+      rest : List ℕ
+      rest = drop n (drop start l)
+
+      go : (k : ℕ) → k < length (put_mid start n l p) → Dec (k < start) → Dec (k < start + n)
+          → get_or (put_mid start n l p) k 0 ≡ get_or (overwritten l start f n) k 0
+      go k w (yes a) d =
+          get_or-append (take start l) (p ++ rest) 0 k (omega (arith, before))
+          ∙ get_or-take start l k 0 a ∙ sym (overwritten_out l start f n k (λ j m q. omega arith))
+      go k w (no a) (yes b) =
+          let j = k - start in
+          let at : k ≡ length (take start l) + j = omega (arith, before) in
+          let here : k ≡ start + j = omega arith in
+          ap (λ (x : ℕ). get_or (put_mid start n l p) x 0) at
+          ∙ get_or-append-add (take start l) (p ++ rest) j 0
+          ∙ get_or-append p rest 0 j (omega arith) ∙ e j (omega arith)
+          ∙ sym (ap (λ (x : ℕ). get_or (overwritten l start f n) x 0) here ∙ overwritten_in l start f n j (omega arith) (omega arith))
+      go k w (no a) (no b) =
+          let j = k - start - n in
+          let at : k ≡ length (take start l) + (length p + j) = omega (arith, before) in
+          let here : start + (n + j) ≡ k = omega arith in
+          ap (λ (x : ℕ). get_or (put_mid start n l p) x 0) at
+          ∙ get_or-append-add (take start l) (p ++ rest) (length p + j) 0
+          ∙ get_or-append-add p rest j 0
+          ∙ get_or-drop n (drop start l) j 0 ∙ get_or-drop start l (n + j) 0
+          ∙ ap (λ (x : ℕ). get_or l x 0) here ∙ sym (overwritten_out l start f n k (λ i m q. omega arith))
+
+-- n words of a list from one on
+pub words_from : (l : List ℕ) (start n : ℕ) → start + n ≤ length l → (length (take n (drop start l)) ≡ n)
+    × ((k : ℕ) → k < n → get_or (take n (drop start l)) k 0 ≡ get_or l (start + k) 0)
+words_from l start n h = (
+  length-take-le n (drop start l) (omega (arith, length-drop start l)),
+  λ k w. get_or-take n (drop start l) k 0 w ∙ get_or-drop start l k 0,
+)
 
 -- the ways that a comparison of keys goes
 module _ (start : ℕ) (t key : List ℕ) (slot : ℕ) where
@@ -34,32 +84,3 @@ module _ (start : ℕ) (t key : List ℕ) (slot : ℕ) where
       name_decides l q =
           sym (and_yes (lt-ltb slot 16 h) (and_yes (eq-eqb (get_or t (start + slot) 0) (get_or key 0 0) e)
           (and_yes (eq-eqb (get_or t (start + 16 + slot) 0) (get_or key 1 0) l) (sym q))))
-
--- what a slot that has a key tells
-module _ (start : ℕ) (t key : List ℕ) (slot : ℕ) (e : has_key start t key slot ≡ true) where
-  pub record HasKey : Type 0 where
-    pub sum : get_or t (start + slot) 0 ≡ get_or key 0 0
-    pub size : get_or t (start + 16 + slot) 0 ≡ get_or key 1 0
-    pub word : (k : ℕ) → k < 8 → get_or t (start + 32 + slot * 8 + k) 0 ≡ get_or key (k + 2) 0
-
-  pub has_key_lem : HasKey
-  unfolding has_key
-  has_key_lem =
-      let a = and_both (eqb (get_or t (start + slot) 0) (get_or key 0 0)) _ (and_both (ltb slot 16) _ e).1 in
-      let b = and_both (eqb (get_or t (start + 16 + slot) 0) (get_or key 1 0)) _ a.1 in
-      record {
-        sum = eqb-true (get_or t (start + slot) 0) (get_or key 0 0) a.0;
-        size = eqb-true (get_or t (start + 16 + slot) 0) (get_or key 1 0) b.0;
-        word = agree_at _ _ 8 b.1;
-      }
-
-  -- storing the key changes nothing
-  pub key_again : slot < 16 → key_stored start t slot key ≡ t
-  unfolding key_stored
-  key_again h =
-      let n = ap (λ (v : ℕ). set t (start + slot) v) (sym has_key_lem.sum) ∙ set-get_or t (start + slot) 0 in
-      let l = ap (λ (v : ℕ). set t (start + 16 + slot) v) (sym has_key_lem.size) ∙ set-get_or t (start + 16 + slot) 0 in
-      cond_yes _ _ (lt-ltb slot 16 h)
-      ∙ ap (λ (u : List ℕ). overwritten (set u (start + 16 + slot) (get_or key 1 0)) (start + 32 + slot * 8) (λ k. get_or key (k + 2) 0) 8) n
-      ∙ ap (λ (u : List ℕ). overwritten u (start + 32 + slot * 8) (λ k. get_or key (k + 2) 0) 8) l
-      ∙ overwritten_again t (start + 32 + slot * 8) (λ k. get_or key (k + 2) 0) 8 has_key_lem.word

@@ -1,13 +1,12 @@
 -- The order of the slots of a table by last use, as their ranks have it: what a use does to it, what forgetting does, and that the slot
 -- that a new key takes is its last.
-use Rattle.std.proofs.Common.{◌≡◌, ℕ, suc, ◌+◌, ◌-◌, ◌<◌, ◌≤◌, Bool, true, false, cond, ◌&&◌, ltb, leb, ◌≢◌, ◌⊎◌, List, [], ◌∷◌, length, take, sym, refl, ap, ◌∙◌, inl, inr, ⊎_elim, zero-le, arith, take_all, ltb-true, le-ltb, lt-ltb, eq-eqb, ne_eqb, leb-false, leb-true}
+use Rattle.std.proofs.Common.{◌≡◌, ℕ, suc, ◌+◌, ◌-◌, ◌<◌, ◌≤◌, Bool, true, false, cond, ◌&&◌, ltb, leb, ◌≢◌, ◌⊎◌, List, [], ◌∷◌, length, take, sym, refl, ap, ◌∙◌, inl, inr, ⊎_elim, zero-le, arith, take_all, ltb-true, le-ltb, lt-ltb, eq-eqb, ne_eqb, leb-false, leb-true, Option, Some, None}
 use mathlib.Core.Logic.{by_cases, ite, if_pos, if_neg}
-use mathlib.Core.Option.{Option, none, some, none-ne-some}
+use mathlib.Core.Option as maybe
+use mathlib.Core.Option.{none, some, none-ne-some}
 use native.Mathlib.Decide.{ℕ_discrete, dec_le, dec_lt}
 use Rattle.records.proofs.KeyedLists.{Distinct, pairwise_without, absent_without, without_absent}
 use Rattle.records.proofs.KeyedLists.{lookup_absent, lookup_without, absent_none, length_at_most, length_at_least}
-use Rattle.records.specs.declared.search.Found.{Found}
-use Rattle.records.specs.declared.search.Found.TheVariants.{At, Nothing}
 use Rattle.records.specs.Remembered.{lookup, without}
 use Rattle.records.proofs.SearchLaws.{Searched, hit, miss, searched, searched_before}
 use Rattle.records.specs.Search.{first, first_from, slot_or}
@@ -22,7 +21,7 @@ abbrev pub position_from : ℕ → ℕ → Slots → ℕ
 position_from p i [] = 16
 position_from p i (e ∷ o) = ite (ℕ_discrete i e.0) p (position_from (suc p) i o)
 
-abbrev pub look_slot : ℕ → Slots → Option (Unit {0})
+abbrev pub look_slot : ℕ → Slots → maybe.Option (Unit {0})
 look_slot = lookup ℕ_discrete
 
 abbrev pub without_slot : ℕ → Slots → Slots
@@ -122,7 +121,7 @@ module _ (rank : ℕ → ℕ) where
   unfolding new_slot
   new_slot_below = go (searched (λ i. leb 15 (rank i)) 0 15)
     where
-      go : {f : Found} → Searched (λ i. leb 15 (rank i)) 0 15 f → slot_or 15 f < 16
+      go : {f : Option ℕ} → Searched (λ i. leb 15 (rank i)) 0 15 f → slot_or 15 f < 16
       go (hit s h e) = omega arith
       go (miss g) = omega arith
 
@@ -130,7 +129,7 @@ module _ (rank : ℕ → ℕ) where
   pub used_below : (test : ℕ → Bool) → slot_or (new_slot rank) (first test) < 16
   used_below test = go (searched test 0 16)
     where
-      go : {f : Found} → Searched test 0 16 f → slot_or (new_slot rank) f < 16
+      go : {f : Option ℕ} → Searched test 0 16 f → slot_or (new_slot rank) f < 16
       go (hit s h e) = h
       go (miss g) = new_slot_below
 
@@ -138,16 +137,16 @@ module _ (rank : ℕ → ℕ) where
   unfolding new_slot
   new_slot_before j h = leb-false 15 (rank j) (go (first_from (λ i. leb 15 (rank i)) 0 15) refl (searched (λ i. leb 15 (rank i)) 0 15) h)
     where
-      go : (f : Found) → first_from (λ i. leb 15 (rank i)) 0 15 ≡ f → Searched (λ i. leb 15 (rank i)) 0 15 f → j < slot_or 15 f → leb 15 (rank j) ≡ false
-      go (At s) q w l = searched_before (λ i. leb 15 (rank i)) 0 15 s q j zero-le l
-      go Nothing q (miss g) l = g j zero-le l
+      go : (f : Option ℕ) → first_from (λ i. leb 15 (rank i)) 0 15 ≡ f → Searched (λ i. leb 15 (rank i)) 0 15 f → j < slot_or 15 f → leb 15 (rank j) ≡ false
+      go (Some s) q w l = searched_before (λ i. leb 15 (rank i)) 0 15 s q j zero-le l
+      go None q (miss g) l = g j zero-le l
 
   -- it has rank 15 or more, or it is the last
   new_slot_enough : (15 ≤ rank (new_slot rank)) ⊎ (new_slot rank ≡ 15)
   unfolding new_slot
   new_slot_enough = go (searched (λ i. leb 15 (rank i)) 0 15)
     where
-      go : {f : Found} → Searched (λ i. leb 15 (rank i)) 0 15 f → (15 ≤ rank (slot_or 15 f)) ⊎ (slot_or 15 f ≡ 15)
+      go : {f : Option ℕ} → Searched (λ i. leb 15 (rank i)) 0 15 f → (15 ≤ rank (slot_or 15 f)) ⊎ (slot_or 15 f ≡ 15)
       go (hit s h e) = inl (leb-true 15 (rank s) e)
       go (miss g) = inr refl
 
@@ -184,7 +183,7 @@ module _ {rank : ℕ → ℕ} {o : Slots} (r : Order rank o) where
   pub rank_most : (i : ℕ) → i < 16 → rank i ≤ 16
   rank_most i h = go (look_slot i o) refl
     where
-      go : (x : Option (Unit {0})) → look_slot i o ≡ x → rank i ≤ 16
+      go : (x : maybe.Option (Unit {0})) → look_slot i o ≡ x → rank i ≤ 16
       go none q = omega (arith, r.ranked i h, position_absent 0 i o q)
       go (some x) q = omega (arith, r.ranked i h, position_in 0 i o q, order_length)
 
@@ -192,7 +191,7 @@ module _ {rank : ℕ → ℕ} {o : Slots} (r : Order rank o) where
   pub all_there : length o ≡ 16 → (i : ℕ) → i < 16 → in_use rank i ≡ true
   all_there n i h = go (look_slot i o) refl
     where
-      go : (x : Option (Unit {0})) → look_slot i o ≡ x → in_use rank i ≡ true
+      go : (x : maybe.Option (Unit {0})) → look_slot i o ≡ x → in_use rank i ≡ true
       go none q = absurd (omega (arith, order_short i h, ap length (without_absent ℕ_discrete i o (absent_none ℕ_discrete i o q))))
       go (some x) q = (there_in_use i q).1
 
@@ -220,7 +219,7 @@ module _ {rank : ℕ → ℕ} {o : Slots} (r : Order rank o) where
       b : new_slot rank < 16
       b = new_slot_below rank
 
-      go : (x : Option (Unit {0})) → look_slot (new_slot rank) o ≡ x → rank j ≤ rank (new_slot rank)
+      go : (x : maybe.Option (Unit {0})) → look_slot (new_slot rank) o ≡ x → rank j ≤ rank (new_slot rank)
       go none q = omega (arith, r.ranked (new_slot rank) b, position_absent 0 (new_slot rank) o q, rank_most j h)
       go (some x) q =
           let n : length o ≡ 16 = omega (arith, order_length, r.ranked (new_slot rank) b, position_in 0 (new_slot rank) o q, new_slot_rank) in
@@ -239,7 +238,7 @@ module _ {rank : ℕ → ℕ} {o : Slots} (r : Order rank o) where
       b : s < 16
       b = new_slot_below rank
 
-      go : (x : Option (Unit {0})) → look_slot s o ≡ x → without_slot s o ≡ take 15 o
+      go : (x : maybe.Option (Unit {0})) → look_slot s o ≡ x → without_slot s o ≡ take 15 o
       go none q = sym (take_all 15 (without_slot s o) (order_short s b)) ∙ ap (take 15) (without_absent ℕ_discrete s o (absent_none ℕ_discrete s o q))
       go (some x) q =
           let p = position_in 0 s o q in
@@ -256,7 +255,7 @@ position_shift p i o n = go (look_slot i o) refl
     shifted p [] q = absurd (none-ne-some tt q)
     shifted p (e ∷ o) q = by_cases (ℕ_discrete i e.0) (λ z. simp if_pos) (λ z. simp if_neg (shifted (suc p) o (simp if_neg at q)))
 
-    go : (x : Option (Unit {0})) → look_slot i o ≡ x → position_from p i o ≡ lowered p (position_from (suc p) i o)
+    go : (x : maybe.Option (Unit {0})) → look_slot i o ≡ x → position_from p i o ≡ lowered p (position_from (suc p) i o)
     go none q = rw (position_absent p i o q, position_absent (suc p) i o q) (sym (lowered_free p))
     go (some x) q =
         let e = shifted p o q in

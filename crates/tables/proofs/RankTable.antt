@@ -1,5 +1,5 @@
 -- A table of slots and ranks represents the list of its entries by last use; a frame moves both alike.
-use Rattle.std.proofs.Common.{◌≡◌, ℕ, ◌<◌, Bool, true, ◌&&◌, ◌≢◌, ◌↔◌, List, [], ◌∷◌, take, sym, refl, ap, ◌∙◌, true≢false, zero-le, arith, take_all, ltb-true, lt-ltb, eq-eqb, ne_eqb}
+use Rattle.std.proofs.Common.{◌≡◌, ℕ, ◌<◌, Bool, true, ◌&&◌, ◌≢◌, ◌↔◌, List, [], ◌∷◌, take, sym, refl, ap, ◌∙◌, true≢false, zero-le, arith, take_all, ltb-true, lt-ltb, eq-eqb, ne_eqb, Option, Some, None}
 use mathlib.Core.Option.{some}
 use native.Mathlib.Decide.{ℕ_discrete}
 use lib.ListN.{length-map}
@@ -11,8 +11,6 @@ use Rattle.records.proofs.ByLastUse.{touch, touch_distinct}
 use Rattle.records.proofs.KeyedLists.{Absent, Distinct, pairwise_without, lookup_absent, absent_without, without_absent}
 use Rattle.records.proofs.KeyedLists.{all_found, entries_of, entries_other, entries_absent, entries_take, entries_without, entries_lookup}
 use Rattle.records.proofs.SearchLaws.{Searched, hit, miss, searched, first_again}
-use Rattle.records.specs.declared.search.Found.{Found}
-use Rattle.records.specs.declared.search.Found.TheVariants.{At, Nothing}
 use Rattle.records.specs.Remembered.{lookup, without, after}
 use Rattle.records.specs.Search.{slot_or}
 use Rattle.tables.specs.Order.{in_use, new_slot, raised, used_rank, forgotten_rank}
@@ -60,14 +58,14 @@ module _ {K W : Type 0} (B : Table K W) where
 
 module _ {K W : Type 0} (B : Table K W) (dec : Discrete K) {t : B.State} {l : List (K × W)} (r : Represents B t l) (k : K) (g : B.Legal k) where
   -- the search found the slot of key k, or the list has no such key
-  data Located : Found → Type 0 where
-    known : (s : ℕ) → s < 16 → look_slot s r.order ≡ some tt → k ≡ B.key t s → Located (At s)
-    new : Absent k l → Located Nothing
+  data Located : Option ℕ → Type 0 where
+    known : (s : ℕ) → s < 16 → look_slot s r.order ≡ some tt → k ≡ B.key t s → Located (Some s)
+    new : Absent k l → Located None
 
   located : Located (slot_of B.columns t k)
   located = go (searched (λ i. B.columns.matches t k i && in_use (rank B t) i) 0 16)
     where
-      go : {f : Found} → Searched (λ i. B.columns.matches t k i && in_use (rank B t) i) 0 16 f → Located f
+      go : {f : Option ℕ} → Searched (λ i. B.columns.matches t k i && in_use (rank B t) i) 0 16 f → Located f
       go (hit s h e) = let b = and_both (B.columns.matches t k s) (in_use (rank B t) s) e in known s h (in_use_there r.ordered s h b.1)
           ((B.matched t k s r.sized g h).0 b.0)
       go (miss f) = new (rw r.entries at (entries_absent (entry B t) k r.order (all_found ℕ_discrete _ r.order r.ordered.distinct (λ e q p.
@@ -81,7 +79,7 @@ module _ {K W : Type 0} (B : Table K W) (dec : Discrete K) {t : B.State} {l : Li
   pub value_lookup : value_of B.columns t k ≡ lookup dec k l
   value_lookup = go located
     where
-      go : {f : Found} → Located f → value_at B.columns t f ≡ lookup dec k l
+      go : {f : Option ℕ} → Located f → value_at B.columns t f ≡ lookup dec k l
       go (known s h q e) = rw (← r.entries, e, entries_lookup ℕ_discrete dec (entry B t) s _ r.order q entries_distinct)
       go (new a) = sym (lookup_absent dec k l a)
 
@@ -92,7 +90,7 @@ module _ {K W : Type 0} (B : Table K W) (dec : Discrete K) {t : B.State} {l : Li
   target_rest : Rest (target B.columns t k)
   target_rest = go located
     where
-      go : {f : Found} → Located f → Rest (slot_or (new_slot (rank B t)) f)
+      go : {f : Option ℕ} → Located f → Rest (slot_or (new_slot (rank B t)) f)
       go (known s h q e) = (
         h,
         rw (← r.entries, e, entries_without ℕ_discrete dec (entry B t) s _ r.order q r.ordered.distinct entries_distinct)
@@ -181,13 +179,13 @@ module _ {K W : Type 0} (B : Table K W) (t : B.State) (z : B.Sized t) (k : K) (g
         and_yes ((B.matched t k j z g l).1 ((B.matched left k j y.sized g l).0 b.0 ∙ (y.other j n).0))
         (lt-ltb (rank B t j) 16 (omega (arith, raised_least (rank B t slot) (rank B t j))))
 
-    slot_found : slot_of B.columns left k ≡ At slot
+    slot_found : slot_of B.columns left k ≡ Some slot
     slot_found =
         first_again (has t) (has left) 0 16 slot zero-le (target_below B t k) slot_has other_had (again (slot_of B.columns t k))
       where
-        again : (f : Found) → slot_or (slot_or (new_slot (rank B t)) f) f ≡ slot_or (new_slot (rank B t)) f
-        again (At i) = refl
-        again Nothing = refl
+        again : (f : Option ℕ) → slot_or (slot_or (new_slot (rank B t)) f) f ≡ slot_or (new_slot (rank B t)) f
+        again (Some i) = refl
+        again None = refl
 
     value_found : value_of B.columns left k ≡ some w
     value_found = ap (value_at B.columns left) slot_found ∙ ap some (B.stored t slot k w z g (target_below B t k)).same.1

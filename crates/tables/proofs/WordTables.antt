@@ -1,5 +1,5 @@
 -- The tables of words, by name and by number, are tables (RankTable): a key, a use and a value stored in a slot give it these and leave the others.
-use Rattle.std.proofs.Common.{◌≡◌, ℕ, zero, suc, ◌+◌, ◌*◌, ◌<◌, ◌≤◌, true, cond, ◌&&◌, eqb, ltb, ◌≢◌, ◌↔◌, List, [], ◌∷◌, ◌++◌, length, get_or, set, sym, refl, ap, ◌∙◌, not-suc-le-zero, arith, length-append, length-set, get_or-set_other, get_or-set_same, get_or-append-add, ext_get_or, ltb-true, le-ltb, lt-ltb, eq-eqb, eqb-true}
+use Rattle.std.proofs.Common.{◌≡◌, ℕ, zero, suc, ◌+◌, ◌*◌, ◌<◌, ◌≤◌, true, cond, ◌&&◌, eqb, ltb, ◌≢◌, ◌↔◌, List, [], ◌∷◌, ◌++◌, length, get_or, set, sym, refl, ap, ◌∙◌, not-suc-le-zero, arith, length-append, length-set, get_or-set_other, get_or-set_same, get_or-append-add, ext_get_or, ltb-true, le-ltb, lt-ltb, eq-eqb, eqb-true, Option, Some}
 use mathlib.Core.Logic.{by_cases}
 use mathlib.Core.Option.{some}
 use native.Mathlib.Decide.{dec_lt}
@@ -7,12 +7,11 @@ use lib.ListN.{get_or-append}
 use Rattle.records.proofs.Booleans.{cond_yes, cond_no, and_yes, and_both}
 use Rattle.records.proofs.NameLaws.{length_tabulate, tabulate_at, tabulate_same, agree_all, length_overwritten, overwritten_in, overwritten_out}
 use Rattle.records.proofs.SearchLaws.{Searched, hit, miss, searched, found_has, first_again}
-use Rattle.records.specs.declared.search.Found.{Found}
-use Rattle.records.specs.declared.search.Found.TheVariants.{At}
 use Rattle.records.specs.Octets.{tabulate, overwritten}
 use Rattle.records.specs.Remembered.{without, after}
 use Rattle.records.specs.Search.{slot_or}
-use Rattle.tables.proofs.NamedLaws.{name_decides, has_key_lem}
+use Rattle.tables.proofs.NamedLaws.{name_decides}
+use Rattle.tables.specs.KeyLaws.{has_key_lem}
 use Rattle.tables.proofs.OrderLaws.{rank_same, free_rank, used_only, used_rank_lem, forgotten_only, forgotten_rank_lem}
 use Rattle.tables.proofs.RankTable.{Table, Represents, represents_forgotten}
 use Rattle.tables.specs.declared.place.Place.{Place}
@@ -244,7 +243,7 @@ module _ {K W : Type 0} (keys : KeyColumns K) (L : KeyColumnLaws keys) (encoding
   unfolding entered found
   value_entered k = go (searched (λ i. keys.matches t k i && in_use (rank_of t) i) 0 16)
     where
-      go : {f : Found} → Searched (λ i. keys.matches t k i && in_use (rank_of t) i) 0 16 f
+      go : {f : Option ℕ} → Searched (λ i. keys.matches t k i && in_use (rank_of t) i) 0 16 f
           → (let e = entered_at keys t k (place_at (rank_of t) f) in
           value_at (word_table keys encoding) t f ≡ if_known e.place.known (encoding.read (value_word e.table keys.values e.place.slot)))
       go (hit s h p) =
@@ -285,7 +284,7 @@ module _ {K : Type 0} (keys : KeyColumns K) (L : KeyColumnLaws keys) (k : K) (g 
       (ap (λ (r : ℕ). ltb r 16) (rank_same t u j l (λ x m. same x (omega (arith, L.behind)))) ∙ b.1)
 
   pub found_kept : (t u : List ℕ) → keys.values ≤ length t → keys.values ≤ length u → ((x : ℕ) → x < keys.values → get_or u x 0 ≡ get_or t x 0)
-      → {i : ℕ} → found keys t k ≡ At i → found keys u k ≡ At i
+      → {i : ℕ} → found keys t k ≡ Some i → found keys u k ≡ Some i
   unfolding found
   found_kept t u z y same {i} e =
       let b = found_has (λ j. keys.matches t k j && in_use (rank_of t) j) 16 refl e in

@@ -1,5 +1,5 @@
 -- The stored order of use gives up the entry that 01's wrapping age does: a table's ranks and ticks agree as long as no tick wraps.
-use Rattle.std.proofs.Common.{◌≡◌, ℕ, zero, suc, ◌+◌, ◌-◌, ◌^◌, ◌<◌, ◌≤◌, Bool, true, false, cond, not, List, [], ◌∷◌, length, sym, refl, ◌∙◌, zero-le, arith, ltb-false, ltb-true, le-ltb, lt-ltb, eq-eqb, ne_eqb, leb-false, leb-true}
+use Rattle.std.proofs.Common.{◌≡◌, ℕ, zero, suc, ◌+◌, ◌-◌, ◌^◌, ◌<◌, ◌≤◌, Bool, true, false, cond, not, List, [], ◌∷◌, length, sym, refl, ◌∙◌, zero-le, arith, ltb-false, ltb-true, le-ltb, lt-ltb, eq-eqb, ne_eqb, leb-false, leb-true, Option, Some, None}
 use mathlib.Core.Bool.{false≢true}
 use mathlib.Core.List.{foldl}
 use mathlib.Core.Logic.{by_cases, if_pos, if_neg}
@@ -8,8 +8,6 @@ use native.Mathlib.Decide.{ℕ_discrete, dec_lt}
 use borrow.Author.Tests.{not-true, not-false}
 use Rattle.records.proofs.KeyedLists.{lookup_without}
 use Rattle.records.proofs.SearchLaws.{Searched, hit, miss, searched, searched_before}
-use Rattle.records.specs.declared.search.Found.{Found}
-use Rattle.records.specs.declared.search.Found.TheVariants.{At, Nothing}
 use Rattle.records.specs.Search.{first, slot_or}
 use Rattle.tables.proofs.RankOrder.{Slots, position_from, look_slot, without_slot, position_from_lem, Order, order_none, order_used, order_length}
 use Rattle.tables.proofs.RankOrder.{in_use_there, there_in_use, new_slot_below, new_slot_before, new_slot_greatest}
@@ -136,9 +134,9 @@ module _ {rank : ℕ → ℕ} {t : Ticks} (a : Agrees rank t) where
       free : ℕ → Bool
       free i = not (t.active i)
 
-      go : (f : Found) → first free ≡ f → Searched free 0 16 f → new_slot rank ≡ slot_or (oldest_of rule (age_of t) 16) f
-      go (At s) q (hit _ h e) = first_free s h (not-true _ e) (λ j l. not-false _ (searched_before free 0 16 s q j zero-le l))
-      go Nothing q (miss g) = new_oldest (λ j l. not-false _ (g j zero-le l)) rule
+      go : (f : Option ℕ) → first free ≡ f → Searched free 0 16 f → new_slot rank ≡ slot_or (oldest_of rule (age_of t) 16) f
+      go (Some s) q (hit _ h e) = first_free s h (not-true _ e) (λ j l. not-false _ (searched_before free 0 16 s q j zero-le l))
+      go None q (miss g) = new_oldest (λ j l. not-false _ (g j zero-le l)) rule
 
 -- the claim: up to 4,294,967,295 uses wrap no tick
 pub wrapping_age : WrappingAge

@@ -8,3 +8,4 @@ pub mod Numbered
 pub mod Table
 pub mod WordTable
 pub mod WrappingAge
+pub mod KeyLaws

@@ -1,8 +1,7 @@
 -- The order of use of a table's sixteen slots (01, "Remembered tables": a full table gives up its oldest entry; request 9: the order is stored). A
 -- slot's rank is 0 where it was used last, up to 15, and 16 where it is free. A table is a list of words; the first two have the ranks, eight
 -- octets each.
-use Rattle.std.specs.Prelude.{ℕ, ◌+◌, ◌-◌, ◌/◌, ◌%◌, ◌^◌, Bool, cond, not, ◌&&◌, List, ◌==◌, nat_le, nat_lt, slice_index, slice_set}
-use Rattle.records.specs.declared.search.Found.{Found}
+use Rattle.std.specs.Prelude.{ℕ, ◌+◌, ◌-◌, ◌/◌, ◌%◌, ◌^◌, Bool, cond, not, ◌&&◌, List, ◌==◌, nat_le, nat_lt, slice_index, slice_set, Option}
 use Rattle.records.specs.Octets.{tabulate}
 use Rattle.records.specs.Search.{first, first_from, slot_or}
 use Rattle.tables.specs.Packed.{packed, updated}
@@ -12,7 +11,7 @@ abbrev pub in_use : (ℕ → ℕ) → ℕ → Bool
 in_use rank slot = nat_lt (rank slot) 16
 
 -- the first free slot
-unfoldable pub free_slot : (ℕ → ℕ) → Found
+unfoldable pub free_slot : (ℕ → ℕ) → Option ℕ
 free_slot rank = first (λ i. not (in_use rank i))
 
 -- the slot that a new key takes: the first of rank 15 or more, which is free or else the oldest; where none of the first fifteen is, the last

@@ -1,7 +1,8 @@
 -- The slot that a frame of a key uses, over the kind of key: the one that has the key, or the one that a new key takes.
-use Rattle.std.specs.Prelude.{ℕ, Bool, true, false, ◌&&◌, List}
-use Rattle.std.proofs.Math.Option.{Option, none, some}
-use Rattle.records.specs.declared.search.Found.{Found}
+use Rattle.std.specs.Prelude.{◌≡◌, ℕ, ◌<◌, ◌≤◌, Bool, true, ◌&&◌, List, Option, Some, None}
+use Rattle.std.specs.Bool.{then_some}
+use Rattle.std.proofs.Math.Option as maybe
+use Rattle.std.proofs.Math.Option.{none, some}
 use Rattle.records.specs.Search.{first, slot_or, is_found}
 use Rattle.tables.specs.declared.place.Place.{Place}
 use Rattle.tables.specs.Order.{rank_of, in_use, new_slot, used_slot}
@@ -12,18 +13,23 @@ pub record KeyColumns (K : Type 0) : Type 0 where
   pub stored : List ℕ → ℕ → K → List ℕ
   pub values : ℕ
 
+-- what a kind of key keeps to: its keys stand behind the ranks, and storing a key in a slot that has it changes nothing
+pub record KeyLaws {K : Type 0} (keys : KeyColumns K) : Type 0 where
+  pub behind_ranks : 2 ≤ keys.values
+  pub again : (t : List ℕ) (k : K) (i : ℕ) → i < 16 → keys.matches t k i ≡ true → keys.stored t i k ≡ t
+
 -- a table after a frame, and the slot that the frame used
 pub record Entered : Type 0 where
   pub table : List ℕ
   pub place : Place
 
 -- from what the search for the key found
-abbrev pub place_at : (ℕ → ℕ) → Found → Place
+abbrev pub place_at : (ℕ → ℕ) → Option ℕ → Place
 place_at rank found = record { slot = slot_or (new_slot rank) found; known = is_found found }
 
 module _ {K : Type 0} (keys : KeyColumns K) where
   -- the first slot in use that has a key
-  unfoldable pub found : List ℕ → K → Found
+  unfoldable pub found : List ℕ → K → Option ℕ
   found t k = first (λ i. keys.matches t k i && in_use (rank_of t) i)
 
   -- a frame of a key: the key stored in the slot that the frame uses, and the slot used
@@ -33,7 +39,11 @@ module _ {K : Type 0} (keys : KeyColumns K) where
   unfoldable pub entered : List ℕ → K → Entered
   entered t k = entered_at t k (place_at (rank_of t) (found t k))
 
+-- a value that is known or not, as the lists that are remembered have it
+abbrev pub known_of : {W : Type 0} → Option W → maybe.Option W
+known_of (Some w) = some w
+known_of None = none
+
 -- a value, if the slot had the key before
-abbrev pub if_known : {W : Type 0} → Bool → W → Option W
-if_known true w = some w
-if_known false w = none
+abbrev pub if_known : {W : Type 0} → Bool → W → maybe.Option W
+if_known known w = known_of (then_some known w)

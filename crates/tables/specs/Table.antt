@@ -1,8 +1,7 @@
 -- The tables that give up their oldest entry (01, "Remembered tables"): what a frame finds in one and leaves in it, over key and value.
-use Rattle.std.specs.Prelude.{ℕ, Bool, ◌&&◌}
-use Rattle.std.proofs.Math.Option.{Option, none, some}
-use Rattle.records.specs.declared.search.Found.{Found}
-use Rattle.records.specs.declared.search.Found.TheVariants.{At, Nothing}
+use Rattle.std.specs.Prelude.{ℕ, Bool, ◌&&◌, Option, Some, None}
+use Rattle.std.proofs.Math.Option as maybe
+use Rattle.std.proofs.Math.Option.{none, some}
 use Rattle.records.specs.Remembered.{after}
 use Rattle.records.specs.Search.{first, slot_or}
 use Rattle.tables.specs.Order.{in_use, new_slot}
@@ -16,16 +15,16 @@ pub record Columns (T K W : Type 0) : Type 0 where
 
 module _ {T K W : Type 0} (C : Columns T K W) where
   -- the first slot in use that has key k
-  abbrev pub slot_of : T → K → Found
+  abbrev pub slot_of : T → K → Option ℕ
   slot_of t k = first (λ i. C.matches t k i && in_use (C.rank t) i)
 
   -- the value of a slot that was found
-  abbrev pub value_at : T → Found → Option W
-  value_at t (At i) = some (C.value t i)
-  value_at t Nothing = none
+  abbrev pub value_at : T → Option ℕ → maybe.Option W
+  value_at t (Some i) = some (C.value t i)
+  value_at t None = none
 
   -- what the table has of key k
-  abbrev pub value_of : T → K → Option W
+  abbrev pub value_of : T → K → maybe.Option W
   value_of t k = value_at t (slot_of t k)
 
   -- the slot that a frame of key k uses: the one that has the key, or the one that a new key takes

@@ -17,7 +17,7 @@ pub fn word(t: &[u64], column: usize, slot: usize) -> u64
 pub fn narrowed(x: u64) -> u16
     ensures { result ≡ min x 65535 }
 {
-    if x < 65535 { x as u16 } else { 65535 }
+    u16::try_from(x).unwrap_or(u16::MAX)
 }
 
 // The word of a slot as such a number.
@@ -43,9 +43,5 @@ pub fn set_word(t: &mut [u64], column: usize, slot: usize, v: u64)
 pub fn zero_words(t: &mut [u64])
     ensures { t.new ≡ zero_words (length t.old) }
 {
-    let mut i: usize = 0;
-    while i < t.len() {
-        t[i] = 0;
-        i += 1;
-    }
+    t.fill(0);
 }

@@ -5,8 +5,6 @@ ghost use Rattle.tables.specs.Order.{rank_in, rank_of, free_slot, new_slot, rais
 ghost use Rattle.tables.specs.Order.{no_entries, all_free};
 ghost use Rattle.tables.specs.Packed.{packed, octet_of, updated};
 
-use records::search::Found;
-
 // The low seven bits of eight octets, their high bits, and an octet of 1 eight times.
 const LOW: u64 = 0x7f7f7f7f7f7f7f7f;
 
@@ -45,20 +43,18 @@ pub fn no_entries(t: &[u64]) -> bool
 }
 
 // The first free slot.
-pub fn free_slot(t: &[u64]) -> Found
+pub fn free_slot(t: &[u64]) -> Option<usize>
     requires { 2 ≤ length t.now }
     ensures { result ≡ free_slot (rank_of t.now) }
 {
-    let mut i: usize = 0;
-    loop {
-        if i >= 16 {
-            break Found::Nothing;
-        }
+    let mut place = None;
+    for i in 0..16 {
         if rank_at(t, i) >= 16 {
-            break Found::At(i);
+            place = Some(i);
+            break;
         }
-        i += 1;
     }
+    place
 }
 
 // The slot that a new key takes: the first of rank 15 or more, which is free or else the oldest, or the last slot.
@@ -66,16 +62,14 @@ pub fn new_slot(t: &[u64]) -> usize
     requires { 2 ≤ length t.now }
     ensures { result ≡ new_slot (rank_of t.now) }
 {
-    let mut i: usize = 0;
-    loop {
-        if i >= 15 {
-            break 15;
-        }
+    let mut slot = 15;
+    for i in 0..15 {
         if rank_at(t, i) >= 15 {
-            break i;
+            slot = i;
+            break;
         }
-        i += 1;
     }
+    slot
 }
 
 // The ranks of a word, without the high bits of its octets.
@@ -163,9 +157,7 @@ fn lowered_word(old: u64, word: u64) -> u64
     ensures { result ≡ packed (λ j. lowered old (rank_in word j)) 8 }
 {
     let mut out: u64 = 0;
-    let mut k: usize = 8;
-    while k > 0 {
-        k -= 1;
+    for k in (0..8).rev() {
         out = lowered(old, rank_in(word, k)) + 256 * out;
     }
     out
@@ -192,9 +184,7 @@ pub fn forget_slot(t: &mut [u64], slot: usize)
 pub fn clear(t: &mut [u64])
     ensures { t.new ≡ no_entries (length t.old) }
 {
-    let mut i: usize = 0;
-    while i < t.len() {
-        t[i] = if i < 2 { FREE } else { 0 };
-        i += 1;
+    for (i, word) in t.iter_mut().enumerate() {
+        *word = if i < 2 { FREE } else { 0 };
     }
 }

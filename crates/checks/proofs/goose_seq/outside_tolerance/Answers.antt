@@ -1,26 +1,27 @@
 -- `outside_tolerance` meets its contract.
-use borrow.Author.Tests.{lt-ltb, le-ltb, le-leb, lt-leb, eq-eqb, ne_eqb}
+use Rattle.std.proofs.Common.{le-ltb, lt-ltb, le-leb, eq-eqb, ne_eqb}
+use borrow.Author.Tests.{lt-leb}
 use Rattle.checks.specs.GooseSeq.{outside_tolerance}
 use Rattle.checks.proofs.goose_seq.outside_tolerance.Goals as goal
 
-pub returns-then-st_num-last_st_num : goal.returns-then-st_num-last_st_num
+pub returns-then-new-last : goal.returns-then-new-last
 unfolding outside_tolerance
-returns-then-st_num-last_st_num c = rw (ne_eqb _ _ c.if-st_num-last_st_num.true)
+returns-then-new-last c = rw (ne_eqb _ _ c.if-new-last.true)
 
-pub returns-then-sq_num-last_sq_num : goal.returns-then-sq_num-last_sq_num
+pub returns-then-new-last-2 : goal.returns-then-new-last-2
 unfolding outside_tolerance
-returns-then-sq_num-last_sq_num c = rw (eq-eqb _ _ c.if-st_num-last_st_num.false, le-ltb _ _ c.if-sq_num-last_sq_num.true)
+returns-then-new-last-2 c = rw (eq-eqb _ _ c.if-new-last.false, le-ltb _ _ c.if-new-last-2.true)
 
-pub returns-then-now_us-last_us : goal.returns-then-now_us-last_us
+pub returns-then-new-last-3 : goal.returns-then-new-last-3
 unfolding outside_tolerance
-returns-then-now_us-last_us c = rw (eq-eqb _ _ c.if-st_num-last_st_num.false, lt-ltb _ _ c.if-sq_num-last_sq_num.false, lt-leb _ _ c.if-now_us-last_us.true)
+returns-then-new-last-3 c = rw (eq-eqb _ _ c.if-new-last.false, lt-ltb _ _ c.if-new-last-2.false, lt-leb _ _ c.if-new-last-3.true)
 
 pub returns : goal.returns
 unfolding outside_tolerance
 returns c = rw (
-  eq-eqb _ _ c.if-st_num-last_st_num.false,
-  lt-ltb _ _ c.if-sq_num-last_sq_num.false,
-  le-leb _ _ c.if-now_us-last_us.false,
+  eq-eqb _ _ c.if-new-last.false,
+  lt-ltb _ _ c.if-new-last-2.false,
+  le-leb _ _ c.if-new-last-3.false,
   c.within_tolerance.ensures,
   c.expected_interval_us-expected.ensures,
   c.observed_us-observed.ensures,

@@ -1,10 +1,14 @@
 -- `retx_anomaly` meets its contract.
+use Rattle.tables.proofs.PlaceLaws.{found_key}
+use Rattle.tables.specs.Named.{named}
 use Rattle.checks.proofs.GooseSeqLaws.{retx_new, retx_known}
 use Rattle.checks.proofs.goose_seq.retx_anomaly.Goals as goal
 
-pub returns-in-At : goal.returns-in-At
-returns-in-At c = retx_known _ _ _ _ c.find_key.ensures c.in-At.is c.word.ensures c.word-in-At.ensures
-    c.word-in-At-2.ensures c.outside_tolerance.ensures
+pub numbers_at-requires : goal.numbers_at-requires
+numbers_at-requires c = (c.requires, (found_key named _ _ c.find.ensures c.in-Some.is).0)
 
-pub returns-in-Nothing : goal.returns-in-Nothing
-returns-in-Nothing c = retx_new _ _ _ _ c.find_key.ensures c.in-Nothing.is
+pub returns-in-Some : goal.returns-in-Some
+returns-in-Some c = retx_known _ _ _ _ c.find.ensures c.in-Some.is c.numbers_at.ensures c.outside_tolerance.ensures
+
+pub returns-in-None : goal.returns-in-None
+returns-in-None c = retx_new _ _ _ _ c.find.ensures c.in-None.is

@@ -1,5 +1,5 @@
 -- `applies` meets its contract.
-use borrow.Author.Tests.{eq-eqb, ne_eqb}
+use Rattle.std.proofs.Common.{eq-eqb, ne_eqb}
 use Rattle.checks.specs.MmsRule.{applies}
 use Rattle.checks.proofs.mms_rule.applies.Goals as goal
 
@@ -7,6 +7,6 @@ pub returns-then-mask-eq65535 : goal.returns-then-mask-eq65535
 unfolding applies
 returns-then-mask-eq65535 c = rw (eq-eqb _ _ c.if-mask-eq65535.true)
 
-pub returns : goal.returns
+pub returns-else-mask-eq65535 : goal.returns-else-mask-eq65535
 unfolding applies
-returns c = rw (ne_eqb _ _ c.if-mask-eq65535.false) c.has_bit.ensures
+returns-else-mask-eq65535 c = rw (ne_eqb _ _ c.if-mask-eq65535.false) c.has_bit.ensures

@@ -6,6 +6,3 @@ use Rattle.checks.proofs.reservation.freed_word.Given as goal
 
 abbrev pub invariant-loop-k : goal.invariant-loop-k
 invariant-loop-k l = PackedFrom (λ j. freed_rank l.t l.client (l.start + j)) l.k l.out
-
-abbrev pub decreases-loop-k : goal.decreases-loop-k
-decreases-loop-k l = l.k

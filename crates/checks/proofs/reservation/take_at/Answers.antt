@@ -3,5 +3,5 @@ use Rattle.checks.proofs.ReservationLaws.{taken}
 use Rattle.checks.proofs.reservation.take_at.Goals as goal
 
 pub returns : goal.returns
-returns c = taken _ _ _ _ c.store_key.ensures c.set_rank.ensures c.set_word.ensures c.set_word-2.ensures
+returns c = taken _ _ _ _ c.store_at.ensures c.set_rank.ensures c.set_word.ensures c.set_word-2.ensures
     c.set_word-3.ensures

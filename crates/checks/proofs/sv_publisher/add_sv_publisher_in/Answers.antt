@@ -1,18 +1,19 @@
 -- `add_sv_publisher_in` meets its contract.
-use Rattle.checks.proofs.RuleLaws.{added_length, added_rule, added_error_lem}
+use Rattle.std.proofs.Common.{◌∙◌}
+use Rattle.std.proofs.lemmas.Result.{err_from_is_err_and}
 use Rattle.checks.specs.SvPublisher.{sv_added}
-use mathlib.Core.Path.{◌∙◌}
+use Rattle.checks.proofs.RuleLaws.{added_length, added_rule, added_error_lem}
 use Rattle.checks.proofs.sv_publisher.add_sv_publisher_in.Goals as goal
 
 pub publisher_key-key-requires : goal.publisher_key-key-requires
-publisher_key-key-requires c = added_length _ _ c.add_answer.ensures c.in-Rule.is
+publisher_key-key-requires c = added_length _ _ c.add_answer.ensures c.in_ok-add_answer.was
 
-pub returns-in-Rule : goal.returns-in-Rule
+pub returns-in_err-add_answer : goal.returns-in_err-add_answer
 unfolding sv_added
-returns-in-Rule c = let n = c.rule_count.ensures in
-    added_rule _ _ _ _ c.add_answer.ensures c.in-Rule.is
-    (c.store_sv_publisher.ensures ∙ rw (n, c.publisher_key-key.ensures))
+returns-in_err-add_answer c =
+    let p = err_from_is_err_and c.from_residual.result c.from_residual.ensures.1 in
+    rw (p.1, p.2) (added_error_lem _ _ _ _ c.add_answer.ensures c.in_err-add_answer.was)
 
-pub returns-in-Error : goal.returns-in-Error
+pub returns : goal.returns
 unfolding sv_added
-returns-in-Error c = added_error_lem _ _ _ _ c.add_answer.ensures c.in-Error.is
+returns c = added_rule _ _ _ _ c.add_answer.ensures c.in_ok-add_answer.was (c.store_sv_publisher.ensures ∙ rw (c.rule_count.ensures, c.publisher_key-key.ensures))

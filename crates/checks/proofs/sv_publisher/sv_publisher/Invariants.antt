@@ -1,6 +1,5 @@
 -- `sv_publisher` meets its contract.
 use mathlib.Core.Path.{◌≡◌}
-use Prim.Native.Nat.{◌≤◌, ◌-◌}
 use Rattle.tables.specs.Named.{has_key}
 use Rattle.checks.proofs.RuleLaws.{Compared}
 use Rattle.checks.specs.SvPublisher.{sv_publisher_count, has_address}
@@ -8,8 +7,5 @@ use Rattle.checks.specs.Rules.{rule_count}
 use Rattle.checks.proofs.sv_publisher.sv_publisher.Given as goal
 
 abbrev pub invariant-loop-i : goal.invariant-loop-i
-invariant-loop-i l = (l.i ≤ l.n) × (l.n ≡ rule_count (sv_publisher_count l.t))
+invariant-loop-i l = (l.n ≡ rule_count (sv_publisher_count l.t))
     × Compared (λ j. has_key 16 l.t l.svid j) (λ j. has_address l.t l.address j) l.i l.is_registered l.place
-
-abbrev pub decreases-loop-i : goal.decreases-loop-i
-decreases-loop-i l = l.n - l.i

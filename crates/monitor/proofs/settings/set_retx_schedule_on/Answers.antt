@@ -1,4 +1,5 @@
 -- `set_retx_schedule_on` meets its contract.
+use Rattle.checks.proofs.RuleLaws.{flag_is}
 use Rattle.checks.specs.Keys.{flag_word}
 use Rattle.monitor.specs.Monitor.{monitor_of}
 use Rattle.monitor.specs.Settings.{setting_set, set_retx_schedule}
@@ -12,4 +13,4 @@ returns c = let a = c.args in
     let first = c.set_setting.ensures in
     let second = set_again m 5 a.schedule.t_max_us first c.set_setting-2.ensures in
     let third = set_again m 6 a.schedule.tolerance_pct second c.set_setting-3.ensures in
-    set_again m 7 (flag_word a.enforce) third (rw (← c.flag_word.ensures) c.set_setting-4.ensures)
+    set_again m 7 (flag_word a.enforce) third (rw (← flag_is _ c.from.ensures) c.set_setting-4.ensures)

@@ -1,20 +1,14 @@
--- `zero_words` meets its contract. The invariant: the words passed are 0.
-use Rattle.std.proofs.Common.{◌≡◌, length, refl, ◌∙◌, arith, length-set}
-use Rattle.records.specs.Octets.{overwritten}
+-- `zero_words` meets its contract.
+use Rattle.std.proofs.Common.{ℕ, length, sym, ◌∙◌, ext_get_or}
+use Rattle.std.proofs.lemmas.List.{length-replicate, get_or-replicate}
+use Rattle.records.proofs.NameLaws.{length_tabulate, tabulate_at}
 use Rattle.tables.specs.Column.{zero_words}
-use Rattle.records.proofs.NameLaws.{overwritten_more, overwritten_whole}
 use Rattle.tables.proofs.column.zero_words.Goals as goal
-
-pub loop-i-init : goal.loop-i-init
-unfolding overwritten
-loop-i-init c = (omega arith, refl, refl)
-
-pub loop-i-preserved : goal.loop-i-preserved
-loop-i-preserved c = let l = c.loop-i in
-    (simp length-set (omega arith), overwritten_more _ _ 0 l.i l.invariant.1 (omega arith) refl, simp length-set l.invariant.2)
 
 pub returns : goal.returns
 unfolding zero_words
-returns c = let l = c.loop-i in
-    let e : l.i ≡ length c.args.t.now = omega arith in
-    (rw e at l.invariant.1) ∙ overwritten_whole _ _ _ refl
+returns c = let n = length c.args.t.now in
+    let z = length-replicate {A = ℕ} n 0 in
+    c.fill.ensures.after (λ y e. e)
+    ∙ ext_get_or 0 _ _ (z ∙ sym (length_tabulate (λ k. 0) n))
+    (λ k h. get_or-replicate n k 0 0 (rw z at h) ∙ sym (tabulate_at (λ k. 0) n k 0 (rw z at h)))

@@ -20,4 +20,4 @@ pub returns : goal.returns
 returns c = let l = c.loop-k in
     let e : l.k ≡ 8 = omega arith in
     let size : length c.args.octets ≡ 64 = search rules in
-    rw c.wide.ensures (key_of_frame _ _ size _ c.valid_len-valid.ensures c.padded-name.ensures (rw e at l.invariant.1) c.sum_of.ensures)
+    rw c.from.ensures (key_of_frame _ _ size _ c.valid_len-valid.ensures c.padded-name.ensures (rw e at l.invariant.1) c.sum_of.ensures)

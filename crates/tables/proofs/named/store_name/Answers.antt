@@ -1,21 +1,11 @@
--- `store_name` meets its contract. The invariant: the words of the name passed are written.
-use Rattle.std.proofs.Common.{◌≡◌, refl, arith, length-set}
-use Rattle.records.specs.Octets.{overwritten}
-use Rattle.records.proofs.NameLaws.{overwritten_more}
+-- `store_name` meets its contract.
+use Rattle.std.proofs.Common.{◌≡◌, ◌+◌, ◌-◌, length, get_or, ap, ◌∙◌, arith}
+use Rattle.tables.proofs.NamedLaws.{words_written, words_from}
 use Rattle.tables.proofs.named.store_name.Goals as goal
 
-pub loop-k-init : goal.loop-k-init
-unfolding overwritten
-loop-k-init c = (omega arith, refl, refl)
-
-pub loop-k-preserved : goal.loop-k-preserved
-loop-k-preserved c = let l = c.loop-k in
-    (omega arith, overwritten_more _ _ _ l.k l.invariant.1 refl refl, simp length-set l.invariant.2)
-
-pub shape_of-t : goal.shape_of-t
-shape_of-t c = c.loop-k.invariant.2
-
 pub returns : goal.returns
-returns c = let l = c.loop-k in
-    let e : l.k ≡ 8 = omega arith in
-    rw e at l.invariant.1
+returns c = let a = c.args in
+    let n : a.start + 8 - a.start ≡ 8 = omega arith in
+    let q = words_from a.key.now 2 8 (omega arith) in
+    let e = c.copy_from_slice.ensures.after in
+    rw n (words_written _ _ _ 8 _ (omega arith) (ap length e ∙ q.0) (λ k h. ap (λ l. get_or l k 0) e ∙ q.1 k h ∙ ap (λ i. get_or a.key.now i 0) (omega arith)))

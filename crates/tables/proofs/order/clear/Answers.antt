@@ -16,8 +16,8 @@ loop-i-preserved c = let l = c.loop-i in (
   simp length-set (omega arith),
   overwritten_more _ _ 0 l.i l.invariant.1 (omega arith)
       (elim c.if-i-lt2.branch [
-        | then-i-lt2 w ↦ w.t-is ∙ sym (cond_yes _ _ (lt-ltb _ _ w.if-i-lt2.true))
-        | else-i-lt2 w ↦ w.t-is ∙ sym (cond_no _ _ (le-ltb _ _ w.if-i-lt2.false))
+        | then-i-lt2 w ↦ w.word-is ∙ sym (cond_yes _ _ (lt-ltb _ _ w.if-i-lt2.true))
+        | else-i-lt2 w ↦ w.word-is ∙ sym (cond_no _ _ (le-ltb _ _ w.if-i-lt2.false))
       ]),
   simp length-set l.invariant.2,
 )

@@ -7,17 +7,20 @@ use Rattle.records.proofs.SearchLaws.{reached_first, reached_end, reached_hit, r
 use Rattle.tables.proofs.order.new_slot.Goals as goal
 
 pub loop-i-init : goal.loop-i-init
-loop-i-init c = reached_first
+loop-i-init c = (refl, reached_first)
 
 pub loop-i-preserved : goal.loop-i-preserved
-loop-i-preserved c = reached_next c.loop-i.invariant (omega arith) refl
-    (ap (leb 15) (sym c.rank_at.ensures) ∙ lt-leb 15 c.rank_at.result (omega arith))
+loop-i-preserved c = (
+  c.loop-i.invariant.0,
+  reached_next c.loop-i.invariant.1 (omega arith) refl
+      (ap (leb 15) (sym c.rank_at.ensures) ∙ lt-leb 15 c.rank_at.result (omega arith)),
+)
 
-pub returns-then-i-ge15 : goal.returns-then-i-ge15
+pub returns-after-loop-i : goal.returns-after-loop-i
 unfolding new_slot
-returns-then-i-ge15 c = ap (slot_or 15) (reached_end c.loop-i.invariant (omega arith))
+returns-after-loop-i c = c.loop-i.invariant.0 ∙ ap (slot_or 15) (reached_end c.loop-i.invariant.1 (omega arith))
 
 pub returns-then-rank_at-ge15 : goal.returns-then-rank_at-ge15
 unfolding new_slot
-returns-then-rank_at-ge15 c = ap (slot_or 15) (reached_hit c.loop-i.invariant (omega arith) refl
+returns-then-rank_at-ge15 c = ap (slot_or 15) (reached_hit c.loop-i.invariant.1 (omega arith) refl
     (ap (leb 15) (sym c.rank_at.ensures) ∙ le-leb 15 c.rank_at.result (omega arith)))

@@ -1,0 +1,10 @@
+-- `add_mms_rule_on` meets its contract.
+use native.Mathlib.Omega.{arith}
+use Rattle.monitor.specs.Monitor.{monitor_of}
+use Rattle.monitor.specs.Parts.{mms_added_on}
+use Rattle.monitor.proofs.PartLaws.{part_checked}
+use Rattle.monitor.proofs.parts.add_mms_rule_on.Goals as goal
+
+pub returns : goal.returns
+unfolding monitor_of mms_added_on
+returns c = part_checked 2 (λ c. c.rules) (λ c. c.answer) c.args.m.now (omega arith) c.told-m (omega arith) c.add_mms_rule_in.ensures
