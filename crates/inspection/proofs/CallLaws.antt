@@ -20,8 +20,8 @@ use Rattle.records.specs.Counter.{saturated}
 use Rattle.records.specs.Octets.{tabulate}
 use Rattle.records.specs.Result.{clean_result}
 use Rattle.tables.specs.Column.{zero_words}
-use Rattle.sv_frame.specs.declared.sv.Parsed.{Parsed}
-use Rattle.sv_frame.specs.declared.sv.Parsed.TheVariants as parsed
+use Rattle.std.proofs.Common.{Result, Ok, Err}
+use Rattle.records.specs.declared.error.VsError.{VsError}
 use Rattle.sv_frame.specs.Sv.{sv_frame}
 use Rattle.monitor.specs.Monitor.{Monitor, Sized}
 use Rattle.monitor.specs.Reset.{new_totals, reset_monitor}
@@ -31,7 +31,7 @@ use Rattle.inspection.specs.CallTheorems.{SameRules, alerts_in, alerts_of, AtMos
 use Rattle.inspection.specs.CallTheorems.{numbers_in, numbers_from}
 use Rattle.inspection.specs.InspectMms.{mms_read, inspect_mms}
 use Rattle.inspection.specs.InspectGoose.{goose_read, inspect_goose}
-use Rattle.inspection.specs.InspectSv.{sv_read, inspect_sv, raw_inspected, inspect_raw_sv}
+use Rattle.inspection.specs.InspectSv.{sv_read, inspect_sv, parsed_inspected, inspect_raw_sv}
 use Rattle.inspection.specs.Report.{Checked, reported}
 use Rattle.inspection.proofs.CheckLaws.{fixed, Keeps, mms_kept, goose_kept, sv_kept}
 use Rattle.inspection.proofs.ReportLaws.{saturating, wrapping, Grows, grows_none, grows_one, frames_kept, reports}
@@ -160,10 +160,11 @@ module _ (m : Monitor) where
   unfolding inspect_sv
   sv_inspects f = inspects m 2 (omega arith) source_sv f.smp_cnt f.timestamp_us _ (sv_kept (frame_counted m 2) (sv_read f))
 
-  parsed_inspects : (a : Parsed) (f : SvFrame) → Inspects m (raw_inspected m a f).monitor (raw_inspected m a f).answer.result (0, 0, frames_read a)
+  parsed_inspects :
+      (p : Result SvFrame VsError) → Inspects m (parsed_inspected m p).monitor (parsed_inspected m p).answer.result (0, 0, frames_read p)
   unfolding clean_result
-  parsed_inspects parsed.Frame f = sv_inspects f
-  parsed_inspects (parsed.Error e) f = record {
+  parsed_inspects (Ok f) = sv_inspects f
+  parsed_inspects (Err e) = record {
     same = record { settings = refl; mms = refl; goose = refl; sv = refl };
     sizes = refl;
     few = record { counted = refl; few = omega arith; whole = refl };
@@ -171,9 +172,9 @@ module _ (m : Monitor) where
   }
 
   pub raw_inspects : (octets : List ℕ) (time : ℕ)
-      → Inspects m (inspect_raw_sv m octets time).monitor (inspect_raw_sv m octets time).answer.result (0, 0, frames_read (sv_frame octets time).answer)
+      → Inspects m (inspect_raw_sv m octets time).monitor (inspect_raw_sv m octets time).answer.result (0, 0, frames_read (sv_frame octets time))
   unfolding inspect_raw_sv
-  raw_inspects octets time = parsed_inspects (sv_frame octets time).answer (sv_frame octets time).frame
+  raw_inspects octets time = parsed_inspects (sv_frame octets time)
 
 -- ---- one call
 

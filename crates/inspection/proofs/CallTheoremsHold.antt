@@ -6,9 +6,9 @@ use native.Mathlib.Omega.{arith}
 use Rattle.records.specs.declared.error.VsError.{VsError}
 use Rattle.records.specs.declared.frame.SvFrame.{SvFrame}
 use Rattle.records.specs.Octets.{tabulate}
-use Rattle.sv_frame.specs.declared.sv.Parsed.{Parsed}
-use Rattle.sv_frame.specs.declared.sv.Parsed.TheVariants as parsed
-use Rattle.sv_frame.specs.Sv.{sv_frame}
+use Rattle.std.proofs.Common.{Result, Ok, Err}
+use Rattle.records.specs.Row.{ValuesOr}
+use Rattle.sv_frame.specs.Sv.{parsed_row, sv_frame}
 use Rattle.sv_frame.proofs.RefusalsHold.{sv_answers}
 use Rattle.tables.specs.Column.{zero_words}
 use Rattle.checks.proofs.RuleLaws.{add_numbers}
@@ -31,7 +31,7 @@ use Rattle.inspection.specs.CallTheorems.{AlertNumbersConsecutive, mms_rule_erro
 use Rattle.inspection.specs.CallTheorems.{RefusalNumbers, RawRefusals, RefusedChangesNothing, RefusedLeftOut, UnreadableNotAllowed}
 use Rattle.inspection.specs.InspectMms.{inspect_mms}
 use Rattle.inspection.specs.InspectGoose.{inspect_goose}
-use Rattle.inspection.specs.InspectSv.{inspect_sv, raw_inspected, inspect_raw_sv}
+use Rattle.inspection.specs.InspectSv.{inspect_sv, parsed_inspected, inspect_raw_sv}
 use Rattle.inspection.proofs.CallLaws.{mms_inspects, goose_inspects, sv_inspects, raw_inspects, stepped, called_sized}
 use Rattle.inspection.proofs.ReportLaws.{saturating, wrapping}
 use Rattle.inspection.proofs.RuleLaws.{not_added, mms_count, goose_count, sv_count_lem}
@@ -143,21 +143,22 @@ unfolding mms_added_on goose_added_on sv_added_on mms_added goose_added sv_added
 refusal_numbers m = (λ mask on rate. add_numbers _ _, λ address name. add_numbers _ _, λ address svid rate. add_numbers _ _)
 
 -- the answer is the decoder's
-parsed_answer : (m : Monitor) (a : Parsed) (f : SvFrame) → a ≡ (raw_inspected m a f).answer.answer
-parsed_answer m parsed.Frame f = refl
-parsed_answer m (parsed.Error e) f = refl
+error_of : (m : Monitor) (p : Result SvFrame VsError) {e : VsError} → (parsed_inspected m p).answer.answer ≡ Err e → p ≡ Err e
+error_of m (Ok f) h = absurd (cc)
+error_of m (Err x) h = cc
 
-module _ (m : Monitor) (octets : List ℕ) (time : ℕ) (e : VsError) (h : (inspect_raw_sv m octets time).answer.answer ≡ parsed.Error e) where
-  unreadable : inspect_raw_sv m octets time ≡ raw_inspected m (parsed.Error e) (sv_frame octets time).frame
+module _ (m : Monitor) (octets : List ℕ) (time : ℕ) (e : VsError) (h : (inspect_raw_sv m octets time).answer.answer ≡ Err e) where
+  unreadable : inspect_raw_sv m octets time ≡ parsed_inspected m (Err e)
   unfolding inspect_raw_sv
-  unreadable =
-      ap (λ (a : Parsed). raw_inspected m a (sv_frame octets time).frame) (parsed_answer m (sv_frame octets time).answer (sv_frame octets time).frame ∙ h)
+  unreadable = ap (parsed_inspected m) (error_of m (sv_frame octets time) h)
 
 pub raw_refusals : RawRefusals
 unfolding inspect_raw_sv
-raw_refusals m octets time =
-    let p = sv_frame octets time in
-    rw (← parsed_answer m p.answer p.frame) (sv_answers octets time)
+raw_refusals m octets time = go (sv_frame octets time) (sv_answers octets time)
+  where
+    go : (p : Result SvFrame VsError) → ValuesOr 9 (parsed_row p) → ValuesOr 9 (parsed_row (parsed_inspected m p).answer.answer)
+    go (Ok f) v = v
+    go (Err x) v = v
 
 pub refused_changes_nothing : RefusedChangesNothing
 unfolding mms_added_on goose_added_on sv_added_on mms_added goose_added sv_added

@@ -20,9 +20,7 @@ use Rattle.records.specs.Result.{clean_result}
 use Rattle.records.specs.Search.{is_found, last_below}
 use Rattle.records.specs.Service.{service_number, is_write}
 use Rattle.records.proofs.Booleans.{and-true, and-false, and_yes, and_no, answered, cond_yes, cond_no}
-use Rattle.sv_frame.specs.declared.sv.Parsed.{Parsed}
-use Rattle.sv_frame.specs.declared.sv.Parsed.TheVariants.{Frame, Error}
-use Rattle.sv_frame.specs.declared.sv.ParsedSv.{ParsedSv}
+use Rattle.std.proofs.Common.{Result, Ok, Err}
 use Rattle.sv_frame.specs.Sv.{sv_frame}
 use Rattle.checks.specs.declared.sv_publisher.PublisherMatch.{PublisherMatch}
 use Rattle.checks.specs.declared.sv_publisher.PublisherMatch.TheVariants.{NotRegistered}
@@ -47,7 +45,7 @@ use Rattle.inspection.specs.InspectGoose.{goose_unknown, control_block, goose_re
 use Rattle.inspection.specs.InspectMms.{MmsRead, control_key, full_findings, mms_reserved, releases, mms_control, refused_on, over_rate, unless_over, mms_rate}
 use Rattle.inspection.specs.InspectMms.{mms_read, mms_read_with, mms_checks, checked_mms}
 use Rattle.inspection.specs.InspectSv.{rate_findings, count_findings, sv_count, sv_clock, sv_time_field, sv_matched, sv_rule}
-use Rattle.inspection.specs.InspectSv.{svid_of, dataset_of, sv_read, sv_read_by, sv_numbers_by, sv_binding, checked_sv, inspect_sv, raw_inspected, inspect_raw_sv}
+use Rattle.inspection.specs.InspectSv.{svid_of, dataset_of, sv_read, sv_read_by, sv_numbers_by, sv_binding, checked_sv, inspect_sv, parsed_inspected, inspect_raw_sv}
 use Rattle.inspection.specs.declared.report.Finding.{Finding}
 use Rattle.inspection.specs.Report.{Checked, findings_of, clock_findings, ended, unless_hijacked, permitted, with_allowed}
 
@@ -152,20 +150,21 @@ sv_checked_lem m f {counted = counted} k s n e =
     counted_checked (λ x. sv_binding x (sv_read f)) n (e ∙ λ i. sv_binding counted (sv_read_by (k i) (dataset_of f) (sv_numbers_by (s i) f)))
 
 -- a raw frame, unreadable or read
-module _ (m : Monitor) (octets : List ℕ) (time : ℕ) {p : ParsedSv} (e : p ≡ sv_frame octets time) where
-  raw_answered : {answer : Parsed} → p.answer ≡ answer → raw_inspected m answer p.frame ≡ inspect_raw_sv m octets time
+module _ (m : Monitor) (octets : List ℕ) (time : ℕ) {p : Result SvFrame VsError} (e : p ≡ sv_frame octets time) where
+  raw_answered : {q : Result SvFrame VsError} → p ≡ q → parsed_inspected m q ≡ inspect_raw_sv m octets time
   unfolding inspect_raw_sv
-  raw_answered a = ap (λ (x : Parsed). raw_inspected m x p.frame) (sym a) ∙ ap (λ (q : ParsedSv). raw_inspected m q.answer q.frame) e
+  raw_answered a = ap (parsed_inspected m) (sym a ∙ e)
 
   pub raw_unreadable :
-      {error : VsError} {clean : InspectResult} → p.answer ≡ Error error → clean ≡ clean_result source_sv
-      → record { monitor = m; answer = record { answer = p.answer; result = with_allowed clean false } } ≡ inspect_raw_sv m octets time
-  raw_unreadable a r = (λ i. record { monitor = m; answer = record { answer = a i; result = with_allowed (r i) false } }) ∙ raw_answered a
+      {error : VsError} {clean : InspectResult} → p ≡ Err error → clean ≡ clean_result source_sv
+      → record { monitor = m; answer = record { answer = Err error; result = with_allowed clean false } } ≡ inspect_raw_sv m octets time
+  raw_unreadable {error} a r =
+      (λ i. record { monitor = m; answer = record { answer = Err error; result = with_allowed (r i) false } }) ∙ raw_answered a
 
   pub raw_read :
-      {after : Monitor} {r : InspectResult} → p.answer ≡ Frame → record { monitor = after; answer = r } ≡ inspect_sv m p.frame
-      → record { monitor = after; answer = record { answer = p.answer; result = r } } ≡ inspect_raw_sv m octets time
-  raw_read a r = (λ i. record { monitor = (r i).monitor; answer = record { answer = a i; result = (r i).answer } }) ∙ raw_answered a
+      {f : SvFrame} {after : Monitor} {r : InspectResult} → p ≡ Ok f → record { monitor = after; answer = r } ≡ inspect_sv m f
+      → record { monitor = after; answer = record { answer = Ok tt; result = r } } ≡ inspect_raw_sv m octets time
+  raw_read a r = (λ i. record { monitor = (r i).monitor; answer = record { answer = Ok tt; result = (r i).answer } }) ∙ raw_answered a
 
 -- ---- GOOSE
 

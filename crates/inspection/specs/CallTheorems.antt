@@ -1,13 +1,13 @@
 -- Theorems over any list of calls of any entry, from any monitor (01, "Alert and result", "Rules", "Refusals in checking order").
 use Rattle.std.specs.Prelude.{ℕ, zero, suc, ◌+◌, ◌-◌, ◌<◌, ◌≤◌, ◌%◌, ◌^◌, min, Bool, false, List, [], ◌∷◌, ◌++◌, map, ◌≡◌, length, take}
+use Rattle.std.specs.Prelude.{Result, Ok, Err}
 use Rattle.records.specs.declared.alert.CodedAlert.{CodedAlert}
 use Rattle.records.specs.declared.error.VsError.{VsError}
 use Rattle.records.specs.declared.result.InspectResult.{InspectResult}
 use Rattle.records.specs.Alert.{source_sv}
 use Rattle.records.specs.Result.{clean_result}
 use Rattle.records.specs.Row.{ValuesOr}
-use Rattle.sv_frame.specs.declared.sv.Parsed.{Parsed}
-use Rattle.sv_frame.specs.declared.sv.Parsed.TheVariants as parsed
+use Rattle.records.specs.declared.frame.SvFrame.{SvFrame}
 use Rattle.sv_frame.specs.Sv.{parsed_row, sv_frame}
 use Rattle.checks.specs.declared.rules.Added.TheVariants as added
 use Rattle.checks.specs.Rules.{AddNumbers}
@@ -86,9 +86,9 @@ pub record AtMostThree (r : InspectResult) : Type 0 where
 -- ---- totals
 
 -- a raw frame counts as the frame read from it, an unreadable one as none
-abbrev pub frames_read : Parsed → ℕ
-frames_read parsed.Frame = 1
-frames_read (parsed.Error e) = 0
+abbrev pub frames_read : Result SvFrame VsError → ℕ
+frames_read (Ok f) = 1
+frames_read (Err e) = 0
 
 -- the MMS, GOOSE and SV frames that a call inspects
 abbrev pub frames_of : Call → ℕ × ℕ × ℕ
@@ -96,7 +96,7 @@ frames_of (setting s) = (0, 0, 0)
 frames_of (mms f) = (1, 0, 0)
 frames_of (goose f) = (0, 1, 0)
 frames_of (sv f) = (0, 0, 1)
-frames_of (raw_sv octets time) = (0, 0, frames_read (sv_frame octets time).answer)
+frames_of (raw_sv octets time) = (0, 0, frames_read (sv_frame octets time))
 frames_of reset = (0, 0, 0)
 
 -- after a reset the first number, after any other call this one
@@ -170,7 +170,7 @@ pub data AnsweredByError (m : Monitor) : Call → Type 0 where
       → AnsweredByError m (setting (new_goose_publisher mac name))
   sv_publisher_error : (mac svid : List ℕ) (rate : ℕ) (e : VsError) → (sv_added_on m (address_of mac) svid rate).answer ≡ added.Error e
       → AnsweredByError m (setting (new_sv_publisher mac svid rate))
-  raw_frame_error : (octets : List ℕ) (time : ℕ) (e : VsError) → (inspect_raw_sv m octets time).answer.answer ≡ parsed.Error e
+  raw_frame_error : (octets : List ℕ) (time : ℕ) (e : VsError) → (inspect_raw_sv m octets time).answer.answer ≡ Err e
       → AnsweredByError m (raw_sv octets time)
 
 -- refusals 1 and 2 by their numbers, of each add call: 6 on 16 rules, then 9 for a name over 64 octets, else added. An MMS rule has no name
@@ -199,5 +199,5 @@ RefusedLeftOut =
 -- refusal 3: beside the error stands a result without alerts that does not allow the frame
 abbrev pub UnreadableNotAllowed : Type 0
 UnreadableNotAllowed =
-    (m : Monitor) (octets : List ℕ) (time : ℕ) (e : VsError) → (inspect_raw_sv m octets time).answer.answer ≡ parsed.Error e
+    (m : Monitor) (octets : List ℕ) (time : ℕ) (e : VsError) → (inspect_raw_sv m octets time).answer.answer ≡ Err e
     → (inspect_raw_sv m octets time).answer.result ≡ with_allowed (clean_result source_sv) false

@@ -1,13 +1,11 @@
 -- The inspection of a sampled-values frame, decoded or raw (01, "Refusals in checking order", 3 and 14 to 20).
 use Rattle.std.specs.Prelude.{ℕ, Bool, false, ◌&&◌, not, cond, List, [], ◌++◌, eqb, ltb, Result, Ok, Err}
+use Rattle.records.specs.declared.error.VsError.{VsError}
 use Rattle.records.specs.declared.frame.SvFrame.{SvFrame}
 use Rattle.records.specs.declared.result.InspectResult.{InspectResult}
 use Rattle.records.specs.Alert.{source_sv}
 use Rattle.records.specs.Name.{name_of}
 use Rattle.records.specs.Result.{clean_result}
-use Rattle.sv_frame.specs.declared.sv.Parsed.{Parsed}
-use Rattle.sv_frame.specs.declared.sv.Parsed.TheVariants.{Frame, Error}
-use Rattle.sv_frame.specs.declared.sv.ParsedSv.{ParsedSv}
 use Rattle.sv_frame.specs.Sv.{sv_frame}
 use Rattle.checks.specs.declared.sv_publisher.PublisherMatch.{PublisherMatch}
 use Rattle.checks.specs.declared.sv_publisher.PublisherMatch.TheVariants.{NotRegistered, WrongAddress, Fits}
@@ -113,12 +111,9 @@ unfoldable pub inspect_sv : Monitor → SvFrame → After InspectResult
 inspect_sv m f = reported source_sv f.smp_cnt f.timestamp_us (checked_sv m f)
 
 -- 3. an unreadable frame leaves the monitor, and is not allowed: a clean result but for that stands beside the error
-abbrev pub raw_inspected : Monitor → Parsed → SvFrame → After RawSv
-raw_inspected m Frame f = record { monitor = (inspect_sv m f).monitor; answer = record { answer = Frame; result = (inspect_sv m f).answer } }
-raw_inspected m (Error e) f = record { monitor = m; answer = record { answer = Error e; result = with_allowed (clean_result source_sv) false } }
-
-abbrev pub parsed_inspected : Monitor → ParsedSv → After RawSv
-parsed_inspected m p = raw_inspected m p.answer p.frame
+abbrev pub parsed_inspected : Monitor → Result SvFrame VsError → After RawSv
+parsed_inspected m (Ok f) = record { monitor = (inspect_sv m f).monitor; answer = record { answer = Ok tt; result = (inspect_sv m f).answer } }
+parsed_inspected m (Err e) = record { monitor = m; answer = record { answer = Err e; result = with_allowed (clean_result source_sv) false } }
 
 -- the monitor after a raw frame of these octets at a time, and the result
 unfoldable pub inspect_raw_sv : Monitor → List ℕ → ℕ → After RawSv

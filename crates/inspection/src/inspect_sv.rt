@@ -23,9 +23,10 @@ use monitor::parts::{
 use monitor::settings::{STRICT_MODE, SV_MAX_SMP_CNT_GAP, flag_on, setting_on};
 use monitor::totals::{SV_TOTAL_INSPECTED, count_frame_on};
 use records::alert::SOURCE_IEC61850_SV;
+use records::error::VsError;
 use records::frame::SvFrame;
 use records::result::InspectResult;
-use sv_frame::sv::{Parsed, parse_sv};
+use sv_frame::sv::parse_sv;
 
 // What the checks read of a frame beside its names.
 #[derive(Clone, Copy)]
@@ -40,7 +41,7 @@ pub struct SvNumbers {
 // The result of a raw frame's inspection, with the error where it could not be read.
 #[derive(Clone, Copy)]
 pub struct RawSv {
-    pub answer: Parsed,
+    pub answer: Result<(), VsError>,
     pub result: InspectResult,
 }
 
@@ -211,20 +212,17 @@ pub fn inspect_raw_sv_on(m: &mut [u64; WORDS], bytes: &[u8], timestamp_us: u64) 
     ensures { record { monitor = monitor_of m.new; answer = result }
         ≡ inspect_raw_sv (monitor_of m.old) bytes.now timestamp_us }
 {
-    let parsed = parse_sv(bytes, timestamp_us);
-    let answer = parsed.answer;
-    let Parsed::Frame = answer else {
-        let mut result = InspectResult::clean(SOURCE_IEC61850_SV);
-        result.allowed = false;
-        return RawSv {
-            answer: answer,
-            result: result,
-        };
-    };
-    let frame = parsed.frame;
-    let result = inspect_sv_on(m, frame);
-    RawSv {
-        answer: answer,
-        result: result,
+    match parse_sv(bytes, timestamp_us) {
+        Ok(frame) => RawSv {
+            answer: Ok(()),
+            result: inspect_sv_on(m, frame),
+        },
+        Err(error) => RawSv {
+            answer: Err(error),
+            result: InspectResult {
+                allowed: false,
+                ..InspectResult::clean(SOURCE_IEC61850_SV)
+            },
+        },
     }
 }

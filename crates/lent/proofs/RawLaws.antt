@@ -10,38 +10,32 @@ use Rattle.records.specs.Alert.{source_sv, no_alert, alert_of}
 use Rattle.records.specs.Name.{valid_len, name_of}
 use Rattle.records.specs.Result.{clean_result}
 use Rattle.records.specs.Verdict.{verdict_of}
-use Rattle.wire.specs.declared.header.Apdu.{Apdu}
-use Rattle.wire.specs.declared.header.Apdu.TheVariants.{At, Refused}
+use Rattle.std.proofs.Common.{Option, Some, None, Result, Ok, Err}
+use Rattle.records.specs.declared.frame.SvFrame.{SvFrame}
+use Rattle.wire.specs.declared.element.Part.{Part}
 use Rattle.wire.specs.declared.header.Header.{Header}
 use Rattle.sv_frame.specs.declared.places.SvPlaces.{SvPlaces}
-use Rattle.sv_frame.specs.declared.sv.Parsed.{Parsed}
-use Rattle.sv_frame.specs.declared.sv.Parsed.TheVariants.{Frame, Error}
-use Rattle.sv_frame.specs.declared.sv.ParsedSv.{ParsedSv}
-use Rattle.wire.specs.declared.element.Part.{Part}
-use Rattle.wire.specs.declared.element.Part.TheVariants as part
 use Rattle.wire.specs.Element.{elements}
 use Rattle.sv_frame.specs.Field.{overlaid}
 use Rattle.wire.specs.Header.{header}
-use Rattle.sv_frame.specs.Places.{SvReading, reading_at, answered, placed_reading, parsed_reading, places_of}
-use Rattle.sv_frame.specs.Sv.{refused_sv, fields_from, empty_frame, asdu_place, apdu_frame, apdu_at, header_frame, sv_frame}
+use Rattle.sv_frame.specs.Places.{SvReading, reading_at, placed_reading, parsed_reading, places_of}
+use Rattle.sv_frame.specs.Sv.{fields_from, empty_frame, asdu_place, apdu_frame, header_frame, sv_frame}
 use Rattle.sv_frame.proofs.PlaceLaws.{overlaid_name, places_read, read_frame, read_error}
-use Rattle.wire.proofs.SoughtLaws.{NoPart}
-use Rattle.sv_frame.proofs.SvLaws.{frame_none, frame_at}
+use Rattle.sv_frame.proofs.SvLaws.{frame_by}
 use Rattle.checks.specs.Keys.{plain_key}
 use Rattle.monitor.specs.Monitor.{Monitor}
-use Rattle.monitor.specs.Parts.{After}
 use Rattle.monitor.specs.Totals.{counted_sv}
 use Rattle.inspection.specs.Address.{address_of}
-use Rattle.inspection.specs.InspectSv.{sv_read_by, sv_binding, inspect_sv, raw_inspected, parsed_inspected, inspect_raw_sv}
+use Rattle.inspection.specs.InspectSv.{sv_read_by, sv_binding, inspect_sv, parsed_inspected, inspect_raw_sv}
 use Rattle.inspection.specs.Report.{Checked, reported, with_allowed, with_verdict}
 use Rattle.inspection.proofs.StageLaws.{counted_checked}
 use Rattle.lent.specs.declared.raw.RawVerdict.{RawVerdict}
-use Rattle.lent.specs.Raw.{with_raw_verdict, refused_verdict, read_numbers, checked_reading}
+use Rattle.lent.specs.Raw.{with_raw_verdict, refused_verdict, answered_verdict, read_numbers, checked_reading}
 
 -- the verdict on an unreadable frame: not allowed, and no alert
-zeros_refuse : (a : Parsed) → (refused_verdict a).verdict ≡ verdict_of (with_allowed (clean_result source_sv) false)
+zeros_refuse : (e : VsError) → (refused_verdict e).verdict ≡ verdict_of (with_allowed (clean_result source_sv) false)
 unfolding verdict_of clean_result no_alert alert_of
-zeros_refuse a = refl
+zeros_refuse e = refl
 
 -- ---- what the checks read
 
@@ -62,87 +56,77 @@ checked_reading_lem m q {counted = counted} k d a n e =
 
 -- ---- the verdict
 
--- by the answer and the frame
-module _ (m : Monitor) (p : ParsedSv) where
-  answered_by : {a : Parsed} → p.answer ≡ a → with_raw_verdict (raw_inspected m a p.frame) ≡ with_raw_verdict (parsed_inspected m p)
-  answered_by e = ap (λ (a : Parsed). with_raw_verdict (raw_inspected m a p.frame)) (sym e)
-
-  raw_refused :
-      {x : VsError} {r : RawVerdict} → r ≡ refused_verdict (Error x) → p.answer ≡ Error x
-      → record { monitor = m; answer = r } ≡ with_raw_verdict (parsed_inspected m p)
-  raw_refused {x = x} r e =
+-- by what was read
+module _ (m : Monitor) {p : Result SvFrame VsError} where
+  pub raw_refused :
+      {x : VsError} {v : RawVerdict} → p ≡ Err x → v ≡ refused_verdict x → record { monitor = m; answer = v } ≡ with_raw_verdict (parsed_inspected m p)
+  raw_refused {x} e r =
       (λ i. record { monitor = m; answer = r i })
-      ∙ (λ i. record { monitor = m; answer = record { answer = Error x; verdict = zeros_refuse (Error x) i } })
-      ∙ answered_by e
+      ∙ (λ i. record { monitor = m; answer = record { answer = Err x; verdict = zeros_refuse x i } })
+      ∙ ap (λ (p : Result SvFrame VsError). with_raw_verdict (parsed_inspected m p)) (sym e)
 
-  raw_inspected_lem :
-      {after : Monitor} {verdict : List ℕ} → p.answer ≡ Frame → record { monitor = after; answer = verdict } ≡ with_verdict (inspect_sv m p.frame)
-      → record { monitor = after; answer = record { answer = Frame; verdict = verdict } } ≡ with_raw_verdict (parsed_inspected m p)
-  raw_inspected_lem e v = (λ i. record { monitor = (v i).monitor; answer = record { answer = Frame; verdict = (v i).answer } }) ∙ answered_by e
+  raw_inspected :
+      {f : SvFrame} {after : Monitor} {verdict : List ℕ} → p ≡ Ok f → record { monitor = after; answer = verdict } ≡ with_verdict (inspect_sv m f)
+      → record { monitor = after; answer = answered_verdict (Ok verdict) } ≡ with_raw_verdict (parsed_inspected m p)
+  raw_inspected e v =
+      (λ i. record { monitor = (v i).monitor; answer = answered_verdict (Ok ((v i).answer)) })
+      ∙ ap (λ (p : Result SvFrame VsError). with_raw_verdict (parsed_inspected m p)) (sym e)
 
--- an APDU without an ASDU
-pub asdu_refused :
-    (m : Monitor) (apdu source : List ℕ) (time : ℕ) (r : Part) → r ≡ asdu_place apdu → NoPart r
-    → {v : RawVerdict} → v ≡ refused_verdict (Error InvalidInput)
-    → record { monitor = m; answer = v } ≡ with_raw_verdict (parsed_inspected m (apdu_frame apdu source time))
-unfolding refused_sv
-asdu_refused m apdu source time r e n v =
-    let p = apdu_frame apdu source time in
-    raw_refused m p v (ap (λ (p : ParsedSv). p.answer) (sym (frame_none apdu source time r e n)))
+-- an APDU without an ASDU, or by the places of its ASDU
+module _ (m : Monitor) (apdu source : List ℕ) (time : ℕ) {r : Result Part VsError} (a : r ≡ asdu_place apdu) where
+  pub asdu_refused :
+      {x : VsError} → r ≡ Err x
+      → record { monitor = m; answer = refused_verdict x } ≡ with_raw_verdict (parsed_inspected m (apdu_frame apdu source time))
+  asdu_refused k = raw_refused m (sym (frame_by apdu source time a k)) refl
 
--- by the places of its ASDU
-module _
-    (m : Monitor) (apdu source : List ℕ) (time : ℕ) (r : Part) (a : r ≡ asdu_place apdu) {start len : ℕ} (k : r ≡ part.At start len)
-    {asdu : List ℕ} (c : asdu ≡ take len (drop start apdu)) (places : SvPlaces)
-    (e : places ≡ places_of asdu) where
-  reading : {x : Parsed} → places.answer ≡ x → answered (reading_at source asdu places) x ≡ parsed_reading (apdu_frame apdu source time)
-  reading h =
-      ap (answered (reading_at source asdu places)) (sym h)
-      ∙ ap (placed_reading source asdu) e
-      ∙ places_read asdu source time
-      ∙ ap (λ (l : List ℕ). parsed_reading (fields_from (empty_frame source time) false (elements l))) c
-      ∙ ap parsed_reading (frame_at apdu source time r a k)
+  module _ {part : Part} (k : r ≡ Ok part) {asdu : List ℕ} (c : asdu ≡ take part.len (drop part.start apdu))
+      {places : Result SvPlaces VsError} (e : places ≡ places_of asdu) where
+    reading : {x : Result SvPlaces VsError} → places ≡ x → placed_reading source asdu x ≡ parsed_reading (apdu_frame apdu source time)
+    reading h =
+        ap (placed_reading source asdu) (sym h ∙ e)
+        ∙ places_read asdu source time
+        ∙ ap (λ (l : List ℕ). parsed_reading (fields_from (empty_frame source time) false (elements l))) c
+        ∙ ap parsed_reading (frame_by apdu source time a k)
 
-  pub places_refused :
-      {x : VsError} → places.answer ≡ Error x → {v : RawVerdict} → v ≡ refused_verdict places.answer
-      → record { monitor = m; answer = v } ≡ with_raw_verdict (parsed_inspected m (apdu_frame apdu source time))
-  places_refused h v = let p = apdu_frame apdu source time in raw_refused m p (v ∙ ap refused_verdict h) (read_error p (reading h))
+    pub places_refused :
+        {x : VsError} → places ≡ Err x
+        → record { monitor = m; answer = refused_verdict x } ≡ with_raw_verdict (parsed_inspected m (apdu_frame apdu source time))
+    places_refused h = raw_refused m (read_error (apdu_frame apdu source time) (reading h)) refl
 
-  pub places_inspected :
-      places.answer ≡ Frame → {c : Checked} → c ≡ checked_reading m (reading_at source asdu places) → {after : Monitor} {verdict : List ℕ}
-      → ((source number time : ℕ) → record { monitor = after; answer = verdict } ≡ with_verdict (reported source number time c))
-      → record { monitor = after; answer = record { answer = Frame; verdict = verdict } }
-      ≡ with_raw_verdict (parsed_inspected m (apdu_frame apdu source time))
-  unfolding inspect_sv
-  places_inspected h k v =
-      let p = apdu_frame apdu source time in
-      let r = read_frame p (reading h) in
-      let f = p.frame in
-      raw_inspected_lem m p r.0
-      (v source_sv f.smp_cnt f.timestamp_us
-      ∙ ap (λ (c : Checked). with_verdict (reported source_sv f.smp_cnt f.timestamp_us c)) (k ∙ ap (checked_reading m) r.1))
+    pub places_inspected :
+        {p : SvPlaces} → places ≡ Ok p → {c : Checked} → c ≡ checked_reading m (reading_at source asdu p)
+        → {after : Monitor} {verdict : List ℕ}
+        → ((source number time : ℕ) → record { monitor = after; answer = verdict } ≡ with_verdict (reported source number time c))
+        → record { monitor = after; answer = answered_verdict (Ok verdict) }
+        ≡ with_raw_verdict (parsed_inspected m (apdu_frame apdu source time))
+    unfolding inspect_sv
+    places_inspected h k v =
+        let r = read_frame (apdu_frame apdu source time) (reading h) in
+        let f = r.0 in
+        raw_inspected m r.1
+        (v source_sv f.smp_cnt f.timestamp_us
+        ∙ ap (λ (c : Checked). with_verdict (reported source_sv f.smp_cnt f.timestamp_us c)) (k ∙ ap (checked_reading m) r.2))
 
 -- by the header
-module _ (m : Monitor) (octets : List ℕ) (time : ℕ) {found : Header} (e : found ≡ header 0x88BA octets) {a : Apdu} (h : found.apdu ≡ a) where
-  by_header : apdu_at octets time found.src_mac a ≡ sv_frame octets time
-  unfolding sv_frame
-  by_header = ap (apdu_at octets time found.src_mac) (sym h) ∙ ap (header_frame octets time) e
-
+module _ (m : Monitor) (octets : List ℕ) (time : ℕ) {found : Option Header} (e : found ≡ header 0x88BA octets) where
   header_inspected :
-      with_raw_verdict (parsed_inspected m (apdu_at octets time found.src_mac a)) ≡ with_raw_verdict (inspect_raw_sv m octets time)
-  unfolding inspect_raw_sv
-  header_inspected = ap (λ (p : ParsedSv). with_raw_verdict (parsed_inspected m p)) by_header
+      {h : Option Header} → found ≡ h
+      → with_raw_verdict (parsed_inspected m (header_frame octets time h)) ≡ with_raw_verdict (inspect_raw_sv m octets time)
+  unfolding inspect_raw_sv sv_frame
+  header_inspected q = ap (λ (h : Option Header). with_raw_verdict (parsed_inspected m (header_frame octets time h))) (sym q ∙ e)
 
-module _ (m : Monitor) (octets : List ℕ) (time : ℕ) {found : Header} (e : found ≡ header 0x88BA octets) where
   pub header_refused :
-      found.apdu ≡ Refused → {r : RawVerdict} → r ≡ refused_verdict (Error InvalidInput)
-      → record { monitor = m; answer = r } ≡ with_raw_verdict (inspect_raw_sv m octets time)
-  unfolding refused_sv
-  header_refused h r = raw_refused m (refused_sv InvalidInput) r refl ∙ header_inspected m octets time e h
+      found ≡ None → {v : RawVerdict} → v ≡ refused_verdict InvalidInput
+      → record { monitor = m; answer = v } ≡ with_raw_verdict (inspect_raw_sv m octets time)
+  header_refused q r = raw_refused m refl r ∙ header_inspected q
 
   pub header_found :
-      {start end : ℕ} → found.apdu ≡ At start end → {apdu : List ℕ} → apdu ≡ take (end - start) (drop start octets)
-      → {s : After RawVerdict} → s ≡ with_raw_verdict (parsed_inspected m (apdu_frame apdu found.src_mac time))
-      → s ≡ with_raw_verdict (inspect_raw_sv m octets time)
-  header_found h a v =
-      v ∙ ap (λ (l : List ℕ). with_raw_verdict (parsed_inspected m (apdu_frame l found.src_mac time))) a ∙ header_inspected m octets time e h
+      {h : Header} → found ≡ Some h → {apdu : List ℕ} → apdu ≡ take (h.apdu.end - h.apdu.start) (drop h.apdu.start octets)
+      → {after : Monitor} (r : Result (List ℕ) VsError) {v : RawVerdict} → v ≡ answered_verdict r
+      → record { monitor = after; answer = answered_verdict r } ≡ with_raw_verdict (parsed_inspected m (apdu_frame apdu h.src_mac time))
+      → record { monitor = after; answer = v } ≡ with_raw_verdict (inspect_raw_sv m octets time)
+  header_found {h} q a {after} r e w =
+      (λ i. record { monitor = after; answer = e i })
+      ∙ w
+      ∙ ap (λ (l : List ℕ). with_raw_verdict (parsed_inspected m (apdu_frame l h.src_mac time))) a
+      ∙ header_inspected q

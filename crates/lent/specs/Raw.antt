@@ -1,7 +1,7 @@
 -- The verdict on a raw SV frame that is read where it stands.
-use Rattle.std.specs.Prelude.{ℕ, [], ◌∷◌}
+use Rattle.std.specs.Prelude.{ℕ, List, [], ◌∷◌, Result, Ok, Err}
+use Rattle.records.specs.declared.error.VsError.{VsError}
 use Rattle.records.specs.Verdict.{verdict_of}
-use Rattle.sv_frame.specs.declared.sv.Parsed.{Parsed}
 use Rattle.sv_frame.specs.Places.{SvReading}
 use Rattle.checks.specs.Keys.{plain_key}
 use Rattle.monitor.specs.Monitor.{Monitor}
@@ -21,8 +21,13 @@ with_raw_verdict a = record { monitor = a.monitor; answer = record { answer = a.
 -- ---- for the code
 
 -- an error, not allowed, and no alert
-abbrev pub refused_verdict : Parsed → RawVerdict
-refused_verdict answer = record { answer = answer; verdict = 0 ∷ 0 ∷ 0 ∷ 0 ∷ 0 ∷ 0 ∷ 0 ∷ 0 ∷ [] }
+abbrev pub refused_verdict : VsError → RawVerdict
+refused_verdict e = record { answer = Err e; verdict = 0 ∷ 0 ∷ 0 ∷ 0 ∷ 0 ∷ 0 ∷ 0 ∷ 0 ∷ [] }
+
+-- the verdict on a frame that was read, or the error
+abbrev pub answered_verdict : Result (List ℕ) VsError → RawVerdict
+answered_verdict (Ok verdict) = record { answer = Ok tt; verdict = verdict }
+answered_verdict (Err e) = refused_verdict e
 
 -- the numbers among what is read of a frame, and the frame counted and checked by what is read of it
 abbrev pub read_numbers : ℕ → SvReading → SvNumbers

@@ -5,7 +5,7 @@ ghost use Rattle.inspection.specs.InspectGoose.{goose_read, checked_goose, inspe
 ghost use Rattle.inspection.specs.Report.{alerts_of, with_verdict};
 ghost use Rattle.lent.specs.Goose.{goose_frame_of};
 
-use crate::octets::{mac_at, name_at, u32_at, u64_at};
+use crate::octets::{octets_at, u32_at, u64_at};
 use inspection::address::address_of;
 use inspection::inspect_goose::{GooseNumbers, goose_checks_on, name_hash};
 use inspection::report::{CheckAlerts, verdict_on};
@@ -18,7 +18,7 @@ fn goose_numbers(o: &[u8]) -> GooseNumbers
     ensures { result ≡ (goose_read (goose_frame_of o.now)).numbers }
 {
     GooseNumbers {
-        address: address_of(mac_at(o, 0)),
+        address: address_of(octets_at(o, 0)),
         hash: name_hash(&o[6..70], o[70]),
         st_num: u32_at(o, 72),
         sq_num: u32_at(o, 76),
@@ -37,7 +37,7 @@ fn check_goose_lent(m: &mut [u64; WORDS], o: &[u8]) -> CheckAlerts
 {
     let n = goose_numbers(o);
     count_frame_on(m, GOOSE_TOTAL_INSPECTED);
-    goose_checks_on(m, &name_at(o, 6), o[70], n)
+    goose_checks_on(m, &octets_at(o, 6), o[70], n)
 }
 
 // Inspects a frame, and answers the verdict.

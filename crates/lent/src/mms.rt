@@ -5,7 +5,7 @@ ghost use Rattle.inspection.specs.InspectMms.{mms_read, checked_mms, inspect_mms
 ghost use Rattle.inspection.specs.Report.{alerts_of, with_verdict};
 ghost use Rattle.lent.specs.Mms.{mms_frame_of};
 
-use crate::octets::{name_at, u32_at, u64_at};
+use crate::octets::{octets_at, u32_at, u64_at};
 use inspection::inspect_mms::{MmsNumbers, mms_checks_on};
 use inspection::report::{CheckAlerts, verdict_on};
 use monitor::parts::WORDS;
@@ -36,7 +36,7 @@ fn check_mms_lent(m: &mut [u64; WORDS], o: &[u8]) -> CheckAlerts
     ensures { record { monitor = monitor_of m.new; answer = alerts_of result }
         ≡ checked_mms (monitor_of m.old) (mms_frame_of o.now) }
 {
-    let domain = name_at(o, 2);
+    let domain = octets_at(o, 2);
     let n = mms_numbers(o);
     count_frame_on(m, MMS_TOTAL_INSPECTED);
     mms_checks_on(m, &domain, n)

@@ -5,7 +5,7 @@ ghost use Rattle.sv_frame.specs.Sv.{apdu_frame};
 ghost use Rattle.monitor.specs.Monitor.{monitor_of};
 ghost use Rattle.inspection.specs.InspectSv.{parsed_inspected, inspect_raw_sv};
 ghost use Rattle.inspection.specs.Report.{alerts_of};
-ghost use Rattle.lent.specs.Raw.{with_raw_verdict, refused_verdict, checked_reading};
+ghost use Rattle.lent.specs.Raw.{with_raw_verdict, refused_verdict, answered_verdict, checked_reading};
 
 use checks::keys::plain_key;
 use inspection::address::address_of;
@@ -16,23 +16,23 @@ use monitor::totals::{SV_TOTAL_INSPECTED, count_frame_on};
 use records::error::VsError;
 use sv_frame::field::name_len;
 use sv_frame::places::{SvPlaces, name_octets, sv_places};
-use sv_frame::sv::{Parsed, sv_asdu};
-use wire::element::{Part, content};
-use wire::header::{Apdu, ETHERTYPE_SV, ethernet_header};
+use sv_frame::sv::sv_asdu;
+use wire::element::content;
+use wire::header::{ETHERTYPE_SV, ethernet_header};
 
 // The verdict on a raw frame, with the error where it could not be read.
 #[derive(Clone, Copy)]
 pub struct RawVerdict {
-    pub answer: Parsed,
+    pub answer: Result<(), VsError>,
     pub verdict: [u8; 8],
 }
 
 // The verdict on a frame that was not read: its error, not allowed, and no alert.
-fn refused_verdict(answer: Parsed) -> RawVerdict
-    ensures { result ≡ refused_verdict answer }
+fn refused_verdict(error: VsError) -> RawVerdict
+    ensures { result ≡ refused_verdict error }
 {
     RawVerdict {
-        answer: answer,
+        answer: Err(error),
         verdict: [0; 8],
     }
 }
@@ -49,8 +49,8 @@ fn check_places(m: &mut [u64; WORDS], asdu: &[u8], source: [u8; 6], p: SvPlaces)
         smp_cnt: p.smp_cnt,
         smp_rate: p.smp_rate,
     };
-    let svid = content(asdu, p.svid_at, p.svid_len);
-    let dataset = content(asdu, p.dataset_at, p.dataset_len);
+    let svid = content(asdu, p.svid.start, p.svid.len);
+    let dataset = content(asdu, p.dataset.start, p.dataset.len);
     count_frame_on(m, SV_TOTAL_INSPECTED);
     sv_checks_on(
         m,
@@ -61,26 +61,16 @@ fn check_places(m: &mut [u64; WORDS], asdu: &[u8], source: [u8; 6], p: SvPlaces)
     )
 }
 
-// Inspects the frame of an APDU from a source, and answers the verdict.
-fn apdu_verdict(m: &mut [u64; WORDS], apdu: &[u8], source: [u8; 6]) -> RawVerdict
-    ensures { (time : ℕ) → record { monitor = monitor_of m.new; answer = result }
+// Inspects the frame of an APDU from a source, and answers the verdict, or the error where it could not be read.
+fn apdu_verdict(m: &mut [u64; WORDS], apdu: &[u8], source: [u8; 6]) -> Result<[u8; 8], VsError>
+    ensures { (time : ℕ) → record { monitor = monitor_of m.new; answer = answered_verdict result }
         ≡ with_raw_verdict (parsed_inspected (monitor_of m.old) (apdu_frame apdu.now source time)) }
 {
-    let Part::At { start, len } = sv_asdu(apdu) else {
-        return refused_verdict(Parsed::Error(VsError::InvalidInput));
-    };
-    let asdu = content(apdu, start, len);
-    let p = sv_places(asdu);
-    let answer = p.answer;
-    let Parsed::Frame = answer else {
-        return refused_verdict(answer);
-    };
+    let place = sv_asdu(apdu)?;
+    let asdu = content(apdu, place.start, place.len);
+    let p = sv_places(asdu)?;
     let alerts = check_places(m, asdu, source, p);
-    let verdict = verdict_on(m, alerts);
-    RawVerdict {
-        answer: Parsed::Frame,
-        verdict: verdict,
-    }
+    Ok(verdict_on(m, alerts))
 }
 
 // Inspects a raw frame, and answers the verdict, which does not depend on the frame's time. One that cannot be read leaves the monitor, and is not
@@ -89,11 +79,15 @@ pub fn raw_sv_verdict_lent(m: &mut [u64; WORDS], bytes: &[u8]) -> RawVerdict
     ensures { (time : ℕ) → record { monitor = monitor_of m.new; answer = result }
         ≡ with_raw_verdict (inspect_raw_sv (monitor_of m.old) bytes.now time) }
 {
-    let found = ethernet_header(bytes, ETHERTYPE_SV);
-    let apdu = found.apdu;
-    let Apdu::At { start, end } = apdu else {
-        return refused_verdict(Parsed::Error(VsError::InvalidInput));
+    let Some(found) = ethernet_header(bytes, ETHERTYPE_SV) else {
+        return refused_verdict(VsError::InvalidInput);
     };
-    let source = found.src_mac;
-    apdu_verdict(m, content(bytes, start, end - start), source)
+    let apdu = content(bytes, found.apdu.start, found.apdu.end - found.apdu.start);
+    match apdu_verdict(m, apdu, found.src_mac) {
+        Ok(verdict) => RawVerdict {
+            answer: Ok(()),
+            verdict,
+        },
+        Err(error) => refused_verdict(error),
+    }
 }

@@ -5,7 +5,7 @@ ghost use Rattle.inspection.specs.InspectSv.{sv_read, checked_sv, inspect_sv};
 ghost use Rattle.inspection.specs.Report.{alerts_of, with_verdict};
 ghost use Rattle.lent.specs.Sv.{sv_frame_of};
 
-use crate::octets::{mac_at, name_at, u16_at, u32_at};
+use crate::octets::{octets_at, u16_at, u32_at};
 use checks::keys::plain_key;
 use inspection::address::address_of;
 use inspection::inspect_sv::{SvNumbers, sv_checks_on};
@@ -19,7 +19,7 @@ fn sv_numbers(o: &[u8]) -> SvNumbers
     ensures { result ≡ (sv_read (sv_frame_of o.now)).numbers }
 {
     SvNumbers {
-        address: address_of(mac_at(o, 0)),
+        address: address_of(octets_at(o, 0)),
         seconds: u32_at(o, 152),
         fraction: u32_at(o, 156),
         smp_cnt: u16_at(o, 72),
@@ -37,8 +37,8 @@ pub fn check_sv_lent(m: &mut [u64; WORDS], o: &[u8]) -> CheckAlerts
     count_frame_on(m, SV_TOTAL_INSPECTED);
     sv_checks_on(
         m,
-        &plain_key(name_at(o, 7), o[6]),
-        &name_at(o, 77),
+        &plain_key(octets_at(o, 7), o[6]),
+        &octets_at(o, 77),
         o[76],
         n,
     )

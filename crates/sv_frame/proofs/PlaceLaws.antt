@@ -15,17 +15,15 @@ use Rattle.records.specs.declared.error.VsError.TheVariants.{InvalidInput}
 use Rattle.records.specs.declared.frame.SvFrame.{SvFrame}
 use Rattle.records.specs.Name.{valid_len, name_of}
 use Rattle.records.specs.Octets.{octet_at, overwritten}
+use Rattle.std.proofs.Common.{Option, Some, Result, Ok, Err}
 use Rattle.wire.specs.declared.element.Element.{Element}
-use Rattle.wire.specs.declared.element.Element.TheVariants.{Read}
-use Rattle.sv_frame.specs.declared.sv.Parsed.{Parsed}
-use Rattle.sv_frame.specs.declared.sv.Parsed.TheVariants.{Frame, Error}
-use Rattle.sv_frame.specs.declared.sv.ParsedSv.{ParsedSv}
+use Rattle.wire.specs.declared.element.Part.{Part}
 use Rattle.sv_frame.specs.declared.places.SvPlaces.{SvPlaces}
 use Rattle.wire.specs.Element.{Elements, ended, failed, next, element, elements}
 use Rattle.sv_frame.specs.Field.{svid_tag, dat_set_tag, smp_cnt_tag, field_fits, overlaid, with_field}
-use Rattle.sv_frame.specs.Places.{SvReading, reading_of, reading_at, with_read, ReadSv, read, refused, answered, placed_reading, parsed_reading}
+use Rattle.sv_frame.specs.Places.{SvReading, reading_of, reading_at, with_read, placed_reading, parsed_reading}
 use Rattle.sv_frame.specs.Places.{no_places, with_place, places_from, places_of}
-use Rattle.sv_frame.specs.Sv.{refused_sv, fields_from, empty_frame}
+use Rattle.sv_frame.specs.Sv.{fields_from, empty_frame}
 use Rattle.wire.proofs.ElementLaws.{read_at_lem, content_length, content_end}
 use Rattle.wire.proofs.SoughtLaws.{Stands, elements_stand}
 
@@ -61,10 +59,6 @@ length_overlaid : (old content : List ℕ) → length old ≡ 64 → length (ove
 unfolding overlaid
 length_overlaid old content h = length_overwritten old (octet_at content) 0 (valid_len (length content)) ∙ h
 
--- the answer with a count, or without
-abbrev answer_of : Bool → Parsed
-answer_of counted = cond counted Frame (Error InvalidInput)
-
 module _ (f : SvFrame) (s : Sized f) (tag : ℕ) (content : List ℕ) where
   field_sized : Sized (with_field f tag content)
   unfolding with_field
@@ -74,20 +68,11 @@ module _ (f : SvFrame) (s : Sized f) (tag : ℕ) (content : List ℕ) where
         dataset = cond_holds (λ (l : List ℕ). length l ≡ 64) (eqb tag dat_set_tag) (length_overlaid f.dataset_ref content s.dataset) s.dataset;
       }
 
-  counts : (c b : Bool) → answer_of (c || b) ≡ cond b Frame (answer_of c)
-  counts true true = refl
-  counts true false = refl
-  counts false true = refl
-  counts false false = refl
-
-  field_read :
-      (counted : Bool)
-      → reading_of (answer_of (counted || eqb tag smp_cnt_tag)) (with_field f tag content) ≡ with_read (reading_of (answer_of counted) f) tag content
+  field_read : reading_of (with_field f tag content) ≡ with_read (reading_of f) tag content
   unfolding with_field with_read
-  field_read counted =
+  field_read =
       let a = named (eqb tag svid_tag) f.svid content f.svid_len s.svid in
       let b = named (eqb tag dat_set_tag) f.dataset_ref content f.dataset_ref_len s.dataset in
-      let c = counts counted (eqb tag smp_cnt_tag) in
       let g = with_field f tag content in
       λ i. record {
         source = f.src_mac;
@@ -97,94 +82,96 @@ module _ (f : SvFrame) (s : Sized f) (tag : ℕ) (content : List ℕ) where
         smp_rate = g.smp_rate;
         seconds = g.t_seconds_since_epoch;
         fraction = g.t_fraction_of_second;
-        answer = c i;
       }
 
 -- the fields of an ASDU in their order, as they are read
-unfoldable pub read_from : SvReading → Elements → ReadSv
-read_from q ended = answered q q.answer
-read_from q (failed e) = refused e
-read_from q (next tag head content rest) = cond (field_fits tag content) (read_from (with_read q tag content) rest) (refused InvalidInput)
-
-refused_read : (e : VsError) → parsed_reading (refused_sv e) ≡ refused e
-unfolding refused_sv
-refused_read e = refl
+unfoldable pub read_from : SvReading → Bool → Elements → Result SvReading VsError
+read_from q counted ended = cond counted (Ok q) (Err InvalidInput)
+read_from q counted (failed e) = Err e
+read_from q counted (next tag head content rest) =
+    cond (field_fits tag content) (read_from (with_read q tag content) (counted || eqb tag smp_cnt_tag) rest) (Err InvalidInput)
 
 pub fields_read :
-    (f : SvFrame) (counted : Bool) (e : Elements) → Sized f → read_from (reading_of (answer_of counted) f) e ≡ parsed_reading (fields_from f counted e)
+    (f : SvFrame) (counted : Bool) (e : Elements) → Sized f → read_from (reading_of f) counted e ≡ parsed_reading (fields_from f counted e)
 unfolding read_from fields_from
 fields_read f true ended s = refl
-fields_read f false ended s = sym (refused_read InvalidInput)
-fields_read f counted (failed e) s = sym (refused_read e)
+fields_read f false ended s = refl
+fields_read f counted (failed e) s = refl
 fields_read f counted (next tag head content rest) s =
     go (field_fits tag content) _
-    (ap (λ (q : SvReading). read_from q rest) (sym (field_read f s tag content counted))
+    (ap (λ (q : SvReading). read_from q (counted || eqb tag smp_cnt_tag) rest) (sym (field_read f s tag content))
     ∙ fields_read (with_field f tag content) (counted || eqb tag smp_cnt_tag) rest (field_sized f s tag content))
   where
-    go : (b : Bool) {q : ReadSv} (p : ParsedSv) → q ≡ parsed_reading p
-        → cond b q (refused InvalidInput) ≡ parsed_reading (cond b p (refused_sv InvalidInput))
+    go : (b : Bool) {q : Result SvReading VsError} (p : Result SvFrame VsError) → q ≡ parsed_reading p
+        → cond b q (Err InvalidInput) ≡ parsed_reading (cond b p (Err InvalidInput))
     go true p e = e
-    go false p e = sym (refused_read InvalidInput)
+    go false p e = refl
 
 -- ---- the places
 
 -- one element at a time
-module _ (p : SvPlaces) (at : ℕ) {es : Elements} where
-  pub places_none : es ≡ ended → places_from p at es ≡ p
+module _ (p : SvPlaces) (counted : Bool) (at : ℕ) {es : Elements} where
+  pub places_none : es ≡ ended → {b : Bool} → counted ≡ b → places_from p counted at es ≡ cond b (Ok p) (Err InvalidInput)
   unfolding places_from
-  places_none e = rw e
+  places_none e c = rw (e, c)
 
-  pub places_failed : {x : VsError} → es ≡ failed x → places_from p at es ≡ no_places x
+  pub places_failed : {x : VsError} → es ≡ failed x → places_from p counted at es ≡ Err x
   unfolding places_from
   places_failed e = rw e
 
   module _ {tag head : ℕ} {content : List ℕ} {rest : Elements} (e : es ≡ next tag head content rest) where
-    places_unfit : field_fits tag content ≡ false → places_from p at es ≡ no_places InvalidInput
+    places_unfit : field_fits tag content ≡ false → places_from p counted at es ≡ Err InvalidInput
     unfolding places_from
     places_unfit n = rw (e, n)
 
     places_fit :
         field_fits tag content ≡ true
-        → places_from p at es ≡ places_from (with_place p tag (at + head) (length content) content) (at + head + length content) rest
+        → places_from p counted at es
+        ≡ places_from (with_place p tag (record { start = at + head; len = length content }) content) (counted || eqb tag smp_cnt_tag)
+        (at + head + length content) rest
     unfolding places_from
     places_fit y = rw (e, y)
 
 -- the same, of an element that is read from a place on
 module _
-    (asdu : List ℕ) (p : SvPlaces) (at : ℕ) {e : Element} (q : e ≡ element (take (length asdu - at) (drop at asdu)))
-    {tag start len end : ℕ} (k : e ≡ Read tag start len end)
-    {content : List ℕ} (c : content ≡ take len (drop (at + start) asdu)) {fits : Bool} (f : fits ≡ field_fits tag content) where
-  fit : {b : Bool} → fits ≡ b → field_fits tag (take len (drop (at + start) asdu)) ≡ b
-  fit b = ap (field_fits tag) (sym c) ∙ sym f ∙ b
+    (asdu : List ℕ) (p : SvPlaces) (counted : Bool) (at : ℕ) {e : Option Element} (q : e ≡ element (take (length asdu - at) (drop at asdu)))
+    {x : Element} (k : e ≡ Some x)
+    {content : List ℕ} (c : content ≡ take x.len (drop (at + x.start) asdu)) {fits : Bool} (f : fits ≡ field_fits x.tag content) where
+  fit : {b : Bool} → fits ≡ b → field_fits x.tag (take x.len (drop (at + x.start) asdu)) ≡ b
+  fit b = ap (field_fits x.tag) (sym c) ∙ sym f ∙ b
 
-  pub walked_unfit : fits ≡ false → places_from p at (elements (drop at asdu)) ≡ no_places InvalidInput
-  walked_unfit n = places_unfit p at (read_at_lem asdu at q k) (fit n)
+  pub walked_unfit : fits ≡ false → places_from p counted at (elements (drop at asdu)) ≡ Err InvalidInput
+  walked_unfit n = places_unfit p counted at (read_at_lem asdu at q k) (fit n)
 
   pub walked_more :
-      fits ≡ true → at ≤ length asdu → {r : SvPlaces} → r ≡ with_place p tag (at + start) len (take len (drop (at + start) asdu))
-      → places_from p at (elements (drop at asdu)) ≡ places_from r (at + end) (elements (drop (at + end) asdu))
-  walked_more y h r =
-      places_fit p at (read_at_lem asdu at q k) (fit y)
+      fits ≡ true → at ≤ length asdu → {r : SvPlaces} → r ≡ with_place p x.tag (record { start = at + x.start; len = x.len }) content
+      → {again : Bool} → again ≡ (counted || eqb x.tag smp_cnt_tag)
+      → places_from p counted at (elements (drop at asdu)) ≡ places_from r again (at + x.end) (elements (drop (at + x.end) asdu))
+  walked_more y h {r} w {again} a =
+      let d = sym c in
+      let b = sym a in
+      places_fit p counted at (read_at_lem asdu at q k) (fit y)
       ∙ (λ i. places_from
-      (with_place p tag (at + start) (content_length asdu at q k h i) (take len (drop (at + start) asdu)))
-      (content_end asdu at q k h i) (elements (drop (at + end) asdu)))
-      ∙ ap (λ (r : SvPlaces). places_from r (at + end) (elements (drop (at + end) asdu))) (sym r)
+      (with_place p x.tag (record { start = at + x.start; len = content_length asdu at q k h i }) (d i)) (b i)
+      (content_end asdu at q k h i) (elements (drop (at + x.end) asdu)))
+      ∙ ap (λ (r : SvPlaces). places_from r again (at + x.end) (elements (drop (at + x.end) asdu))) (sym w)
 
 -- what is read at the places is what is read of the frame
 module _ (asdu source : List ℕ) where
-  named_at : (b : Bool) (at len old-at old-len : ℕ) {content : List ℕ} → content ≡ take len (drop at asdu)
-      → take 64 (take (cond b len old-len) (drop (cond b at old-at) asdu)) ≡ cond b (take 64 content) (take 64 (take old-len (drop old-at asdu)))
-  named_at true at len old-at old-len e = ap (take 64) (sym e)
-  named_at false at len old-at old-len e = refl
+  named_at : (b : Bool) (place old : Part) {content : List ℕ} → content ≡ take place.len (drop place.start asdu)
+      → take 64 (take (cond b place old).len (drop (cond b place old).start asdu))
+      ≡ cond b (take 64 content) (take 64 (take old.len (drop old.start asdu)))
+  named_at true place old e = ap (take 64) (sym e)
+  named_at false place old e = refl
 
   place_read :
-      (p : SvPlaces) (tag at len : ℕ) {content : List ℕ} → content ≡ take len (drop at asdu)
-      → reading_at source asdu (with_place p tag at len content) ≡ with_read (reading_at source asdu p) tag content
+      (p : SvPlaces) (tag : ℕ) (place : Part) {content : List ℕ} → content ≡ take place.len (drop place.start asdu)
+      → reading_at source asdu (with_place p tag place content) ≡ with_read (reading_at source asdu p) tag content
   unfolding with_place with_read
-  place_read p tag at len {content} e =
-      let r = with_place p tag at len content in
-      let a = named_at (eqb tag svid_tag) at len p.svid_at p.svid_len e in
-      let b = named_at (eqb tag dat_set_tag) at len p.dataset_at p.dataset_len e in
+  place_read p tag place {content} e =
+      let r = with_place p tag place content in
+      let a = named_at (eqb tag svid_tag) place p.svid e in
+      let b = named_at (eqb tag dat_set_tag) place p.dataset e in
       λ i. record {
         source = source;
         svid = a i;
@@ -193,22 +180,24 @@ module _ (asdu source : List ℕ) where
         smp_rate = r.smp_rate;
         seconds = r.seconds;
         fraction = r.fraction;
-        answer = r.answer;
       }
 
   placed_read :
-      (p : SvPlaces) (at : ℕ) (es : Elements) → Stands asdu at es
-      → placed_reading source asdu (places_from p at es) ≡ read_from (reading_at source asdu p) es
+      (p : SvPlaces) (counted : Bool) (at : ℕ) (es : Elements) → Stands asdu at es
+      → placed_reading source asdu (places_from p counted at es) ≡ read_from (reading_at source asdu p) counted es
   unfolding places_from read_from
-  placed_read p at ended s = refl
-  placed_read p at (failed e) s = refl
-  placed_read p at (next tag head content rest) s =
+  placed_read p true at ended s = refl
+  placed_read p false at ended s = refl
+  placed_read p counted at (failed e) s = refl
+  placed_read p counted at (next tag head content rest) s =
       go (field_fits tag content) _
-      (placed_read (with_place p tag (at + head) (length content) content) (at + head + length content) rest s.2
-      ∙ ap (λ (q : SvReading). read_from q rest) (place_read p tag (at + head) (length content) s.0))
+      (placed_read (with_place p tag (record { start = at + head; len = length content }) content) (counted || eqb tag smp_cnt_tag)
+      (at + head + length content) rest s.2
+      ∙ ap (λ (q : SvReading). read_from q (counted || eqb tag smp_cnt_tag) rest)
+      (place_read p tag (record { start = at + head; len = length content }) s.0))
     where
-      go : (b : Bool) (r : SvPlaces) {q : ReadSv} → placed_reading source asdu r ≡ q
-          → placed_reading source asdu (cond b r (no_places InvalidInput)) ≡ cond b q (refused InvalidInput)
+      go : (b : Bool) (r : Result SvPlaces VsError) {q : Result SvReading VsError} → placed_reading source asdu r ≡ q
+          → placed_reading source asdu (cond b r (Err InvalidInput)) ≡ cond b q (Err InvalidInput)
       go true r e = e
       go false r e = refl
 
@@ -219,22 +208,15 @@ pub places_read :
     (asdu source : List ℕ) (time : ℕ)
     → placed_reading source asdu (places_of asdu) ≡ parsed_reading (fields_from (empty_frame source time) false (elements asdu))
 places_read asdu source time =
-    placed_read asdu source (no_places InvalidInput) 0 (elements asdu) (elements_stand asdu)
+    placed_read asdu source no_places false 0 (elements asdu) (elements_stand asdu)
     ∙ fields_read (empty_frame source time) false (elements asdu) (empty_sized source time)
 
 -- ---- a frame, by what is read of it
 
-module _ (p : ParsedSv) where
-  pub read_frame : {q : SvReading} → read q ≡ parsed_reading p → (p.answer ≡ Frame) × (q ≡ reading_of Frame p.frame)
-  read_frame {q} e = go p.frame p.answer e
-    where
-      go : (f : SvFrame) (a : Parsed) → read q ≡ answered (reading_of Frame f) a → (a ≡ Frame) × (q ≡ reading_of Frame f)
-      go f Frame e = (refl, cc)
-      go f (Error x) e = let z : ◌≡◌ {A = ℕ} 0 1 = cc in absurd (omega arith)
+pub read_frame : (p : Result SvFrame VsError) {q : SvReading} → Ok q ≡ parsed_reading p → (f : SvFrame) × (p ≡ Ok f) × (q ≡ reading_of f)
+read_frame (Ok f) e = (f, refl, cc)
+read_frame (Err x) e = absurd (cc)
 
-  pub read_error : {x : VsError} → refused x ≡ parsed_reading p → p.answer ≡ Error x
-  read_error {x} e = go p.frame p.answer e
-    where
-      go : (f : SvFrame) (a : Parsed) → refused x ≡ answered (reading_of Frame f) a → a ≡ Error x
-      go f Frame e = let z : ◌≡◌ {A = ℕ} 0 1 = cc in absurd (omega arith)
-      go f (Error y) e = cc
+pub read_error : (p : Result SvFrame VsError) {x : VsError} → Err x ≡ parsed_reading p → p ≡ Err x
+read_error (Ok f) e = absurd (cc)
+read_error (Err y) e = cc

@@ -1,4 +1,4 @@
--- The frame that octets hold is legal; the default frame beside a refusal is too.
+-- The frame that octets hold is legal.
 use mathlib.Core.Path.{◌≡◌, refl}
 use mathlib.Core.Bool.{Bool, true, false, ◌&&◌, ◌||◌, cond}
 use mathlib.Core.List.{List}
@@ -10,20 +10,18 @@ use lib.ListN.{length, take, drop, length-take}
 use Rattle.records.proofs.Booleans.{cond_holds}
 use Rattle.records.proofs.OctetLaws.{octets_drop, array_tabulate, array_overwritten, array_zeros}
 use Rattle.records.specs.declared.error.VsError.{VsError}
-use Rattle.records.specs.declared.error.VsError.TheVariants.{InvalidInput}
 use Rattle.records.specs.declared.frame.SvFrame.{SvFrame}
 use Rattle.records.specs.Legal.{Octets, OctetArray, LegalSv}
 use Rattle.records.specs.Octets.{octet_at}
+use Rattle.std.proofs.Common.{Option, Some, None, Result, Ok, Err}
+use Rattle.std.specs.Prelude.{unwrap_or}
 use Rattle.wire.specs.declared.header.Apdu.{Apdu}
-use Rattle.wire.specs.declared.header.Apdu.TheVariants.{At, Refused}
-use Rattle.wire.specs.declared.number.Unsigned.TheVariants as unsigned
-use Rattle.sv_frame.specs.declared.sv.ParsedSv.{ParsedSv}
-use Rattle.wire.specs.Element.{Elements, ended, failed, next, Sought, found, missing, error, elements, first_content, opened}
+use Rattle.wire.specs.Element.{Elements, ended, failed, next, Sought, elements, first_content, opened}
 use Rattle.sv_frame.specs.Field.{sav_pdu_tag, seq_asdu_tag, asdu_tag, svid_tag, dat_set_tag, smp_cnt_tag, refr_tm_tag, smp_rate_tag}
-use Rattle.sv_frame.specs.Field.{value_or, overlaid, with_field, field_fits}
+use Rattle.sv_frame.specs.Field.{overlaid, with_field, field_fits}
 use Rattle.wire.specs.Header.{apdu_of, source_of, with_source, header}
 use Rattle.wire.specs.Number.{big_endian, unsigned_int}
-use Rattle.sv_frame.specs.Sv.{refused_sv, fields_from, asdu_frame, seq_asdu_frame, sav_pdu_frame, empty_frame, apdu_frame, header_frame, sv_frame}
+use Rattle.sv_frame.specs.Sv.{fields_from, asdu_frame, seq_asdu_frame, sav_pdu_frame, empty_frame, apdu_frame, header_frame, sv_frame}
 use Rattle.wire.proofs.ElementLaws.{Contents, FoundOr, all_elements, first_has, opened_has}
 use Rattle.wire.proofs.NumberLaws.{number_below}
 use Rattle.wire.proofs.PartLaws.{part_octets}
@@ -43,9 +41,10 @@ empty_legal a t =
       fraction = omega arith;
     }
 
-refused_legal : (e : VsError) → LegalSv (refused_sv e).frame
-unfolding refused_sv
-refused_legal e = empty_legal (array_zeros 6) (omega arith)
+-- a frame that is read is legal
+abbrev pub IfLegal : Result SvFrame VsError → Type 0
+IfLegal (Ok f) = LegalSv f
+IfLegal (Err e) = Unit
 
 -- a field's content, whatever its length
 module _ (content : List ℕ) (o : Octets content) where
@@ -54,12 +53,12 @@ module _ (content : List ℕ) (o : Octets content) where
   overlaid_array a = array_overwritten (octet_at content) o 0 _ a
 
   -- a value is 65535 at most
-  value_below : (old : ℕ) → old < 2 ^ 16 → value_or old (unsigned_int content) < 2 ^ 16
+  value_below : (old : ℕ) → old < 2 ^ 16 → unwrap_or (unsigned_int content) old < 2 ^ 16
   unfolding unsigned_int
   value_below old h = go (leb 1 (length content)) (leb (length content) 4) (leb (big_endian content) 65535) refl
     where
       go : (a b c : Bool) → leb (big_endian content) 65535 ≡ c
-          → value_or old (cond (a && b && c) (unsigned.Value (big_endian content)) unsigned.Refused) < 2 ^ 16
+          → unwrap_or (cond (a && b && c) (Some (big_endian content)) None) old < 2 ^ 16
       go true true true e = omega (arith, leb-true (big_endian content) 65535 e)
       go true true false e = h
       go true false c e = h
@@ -88,45 +87,45 @@ module _ (content : List ℕ) (o : Octets content) where
         fraction = timed_below tag 7 (part_below 4 3 (omega arith)) l.fraction;
       }
 
-fields_legal : (f : SvFrame) (counted : Bool) (e : Elements) → LegalSv f → Contents Octets e → LegalSv (fields_from f counted e).frame
+fields_legal : (f : SvFrame) (counted : Bool) (e : Elements) → LegalSv f → Contents Octets e → IfLegal (fields_from f counted e)
 unfolding fields_from
 fields_legal f true ended l c = l
-fields_legal f false ended l c = refused_legal InvalidInput
-fields_legal f counted (failed e) l c = refused_legal e
+fields_legal f false ended l c = tt
+fields_legal f counted (failed e) l c = tt
 fields_legal f counted (next tag head content rest) l c =
-    cond_holds (λ (p : ParsedSv). LegalSv p.frame) (field_fits tag content)
+    cond_holds IfLegal (field_fits tag content)
     (fields_legal (with_field f tag content) (counted || eqb tag smp_cnt_tag) rest (field_legal content c.0 f tag l) c.1)
-    (refused_legal InvalidInput)
+    tt
 
 -- what is sought in octets is octets
 module _ (f : SvFrame) (l : LegalSv f) where
-  asdu_legal : (s : Sought) → FoundOr Octets s → LegalSv (asdu_frame f s).frame
-  asdu_legal (found asdu) o = fields_legal f false (elements asdu) l (all_elements Octets part_octets octets_drop asdu o)
-  asdu_legal missing o = refused_legal InvalidInput
-  asdu_legal (error e) o = refused_legal e
+  asdu_legal : (s : Sought) → FoundOr Octets s → IfLegal (asdu_frame f s)
+  asdu_legal (Ok (Some asdu)) o = fields_legal f false (elements asdu) l (all_elements Octets part_octets octets_drop asdu o)
+  asdu_legal (Ok None) o = tt
+  asdu_legal (Err e) o = tt
 
-  seq_legal : (s : Sought) → FoundOr Octets s → LegalSv (seq_asdu_frame f s).frame
-  seq_legal (found asdus) o = asdu_legal (opened asdu_tag asdus) (opened_has Octets part_octets octets_drop asdu_tag asdus o)
-  seq_legal missing o = refused_legal InvalidInput
-  seq_legal (error e) o = refused_legal e
+  seq_legal : (s : Sought) → FoundOr Octets s → IfLegal (seq_asdu_frame f s)
+  seq_legal (Ok (Some asdus)) o = asdu_legal (opened asdu_tag asdus) (opened_has Octets part_octets octets_drop asdu_tag asdus o)
+  seq_legal (Ok None) o = tt
+  seq_legal (Err e) o = tt
 
-  pdu_legal : (s : Sought) → FoundOr Octets s → LegalSv (sav_pdu_frame f s).frame
-  pdu_legal (found pdu) o = seq_legal (first_content seq_asdu_tag (elements pdu)) (first_has Octets part_octets octets_drop seq_asdu_tag pdu o)
-  pdu_legal missing o = refused_legal InvalidInput
-  pdu_legal (error e) o = refused_legal e
+  pdu_legal : (s : Sought) → FoundOr Octets s → IfLegal (sav_pdu_frame f s)
+  pdu_legal (Ok (Some pdu)) o = seq_legal (first_content seq_asdu_tag (elements pdu)) (first_has Octets part_octets octets_drop seq_asdu_tag pdu o)
+  pdu_legal (Ok None) o = tt
+  pdu_legal (Err e) o = tt
 
 apdu_legal :
-    (apdu : List ℕ) {source : List ℕ} {time : ℕ} → Octets apdu → OctetArray 6 source → time < 2 ^ 64 → LegalSv (apdu_frame apdu source time).frame
+    (apdu : List ℕ) {source : List ℕ} {time : ℕ} → Octets apdu → OctetArray 6 source → time < 2 ^ 64 → IfLegal (apdu_frame apdu source time)
 unfolding apdu_frame
 apdu_legal apdu {source} {time} o a t =
     pdu_legal (empty_frame source time) (empty_legal a t) (opened sav_pdu_tag apdu) (opened_has Octets part_octets octets_drop sav_pdu_tag apdu o)
 
-pub sv_legal : (octets : List ℕ) (time : ℕ) → Octets octets → time < 2 ^ 64 → LegalSv (sv_frame octets time).frame
+pub sv_legal : (octets : List ℕ) (time : ℕ) → Octets octets → time < 2 ^ 64 → IfLegal (sv_frame octets time)
 unfolding sv_frame header source_of
 sv_legal octets time o t = go (apdu_of 0x88BA octets)
   where
-    go : (a : Apdu) → LegalSv (header_frame octets time (with_source octets a)).frame
-    go (At start end) =
-        apdu_legal (take (end - start) (drop start octets)) (part_octets octets o start (end - start))
+    go : (a : Option Apdu) → IfLegal (header_frame octets time (with_source octets a))
+    go (Some a) =
+        apdu_legal (take (a.end - a.start) (drop a.start octets)) (part_octets octets o a.start (a.end - a.start))
         (array_tabulate (λ k. octet_at octets (6 + k)) (λ k. o (6 + k)) 6) t
-    go Refused = refused_legal InvalidInput
+    go None = tt

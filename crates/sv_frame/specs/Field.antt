@@ -1,10 +1,8 @@
 -- The fields of an ASDU (01, "SV frame"; IEC 61850-9-2, 8.5.2).
-use Rattle.std.specs.Prelude.{ℕ, Bool, true, false, cond, List, eqb, leb, length, take, drop}
+use Rattle.std.specs.Prelude.{ℕ, Bool, true, cond, List, eqb, leb, length, take, drop, is_some, unwrap_or}
 use Rattle.records.specs.declared.frame.SvFrame.{SvFrame}
 use Rattle.records.specs.Name.{valid_len}
 use Rattle.records.specs.Octets.{octet_at, overwritten}
-use Rattle.wire.specs.declared.number.Unsigned.{Unsigned}
-use Rattle.wire.specs.declared.number.Unsigned.TheVariants.{Value, Refused}
 use Rattle.wire.specs.Number.{big_endian, pair_at, unsigned_int}
 
 -- tags: the PDU, its sequence of ASDUs, an ASDU; svID, data set, smpCnt, time, rate
@@ -32,11 +30,6 @@ refr_tm_tag = 0x84
 abbrev pub smp_rate_tag : ℕ
 smp_rate_tag = 0x86
 
--- whether an unsigned integer was read
-abbrev pub is_value : Unsigned → Bool
-is_value (Value v) = true
-is_value Refused = false
-
 -- svID and data set have 0 to 64 octets, smpCnt has 2, the rate is an unsigned integer of 1 to 4 octets and at most 65535; a time, and
 -- other tags, have any length
 unfoldable pub field_fits : ℕ → List ℕ → Bool
@@ -44,16 +37,11 @@ field_fits tag content =
     cond (eqb tag svid_tag) (leb (length content) 64)
     (cond (eqb tag dat_set_tag) (leb (length content) 64)
     (cond (eqb tag smp_cnt_tag) (eqb (length content) 2)
-    (cond (eqb tag smp_rate_tag) (is_value (unsigned_int content)) true)))
+    (cond (eqb tag smp_rate_tag) (is_some (unsigned_int content)) true)))
 
 -- a shorter name leaves the earlier octets behind its end
 unfoldable pub overlaid : List ℕ → List ℕ → List ℕ
 overlaid old content = overwritten old 0 (octet_at content) (valid_len (length content))
-
--- the value that was read, or the one before
-abbrev pub value_or : ℕ → Unsigned → ℕ
-value_or old (Value v) = v
-value_or old Refused = old
 
 -- the seconds of a time of 4 octets or more, the fraction of one of 7 or more, or those before
 abbrev pub seconds_or : ℕ → List ℕ → ℕ
@@ -70,7 +58,7 @@ with_field f tag content =
       svid_len = cond (eqb tag svid_tag) (valid_len (length content)) f.svid_len;
       svid = cond (eqb tag svid_tag) (overlaid f.svid content) f.svid;
       smp_cnt = cond (eqb tag smp_cnt_tag) (pair_at content 0) f.smp_cnt;
-      smp_rate = cond (eqb tag smp_rate_tag) (value_or f.smp_rate (unsigned_int content)) f.smp_rate;
+      smp_rate = cond (eqb tag smp_rate_tag) (unwrap_or (unsigned_int content) f.smp_rate) f.smp_rate;
       dataset_ref_len = cond (eqb tag dat_set_tag) (valid_len (length content)) f.dataset_ref_len;
       dataset_ref = cond (eqb tag dat_set_tag) (overlaid f.dataset_ref content) f.dataset_ref;
       timestamp_us = f.timestamp_us;

@@ -2,13 +2,11 @@
 // (Apache-2.0) and changed.
 ghost use Rattle.std.specs.Prelude.{◌≡◌, length};
 ghost use Rattle.records.specs.Name.{valid_len};
-ghost use Rattle.sv_frame.specs.Field.{is_value, field_fits, overlaid, seconds_or, fraction_or, value_or, with_field};
-ghost use Rattle.wire.specs.Number.{unsigned_int};
+ghost use Rattle.sv_frame.specs.Field.{field_fits, overlaid, seconds_or, fraction_or, with_field};
 
 use records::frame::SvFrame;
 use records::octets::put_first;
-use wire::element::content;
-use wire::number::{Unsigned, big_endian, decode_unsigned_int, pair_at};
+use wire::number::{big_endian, decode_unsigned_int, pair_at};
 
 // Tags of IEC 61850-9-2, 8.5.2, in its order: the PDU, its sequence of ASDUs, an ASDU, and the fields that the frame takes.
 pub const SAV_PDU: u8 = 0x60;
@@ -27,16 +25,6 @@ pub const REFR_TM: u8 = 0x84;
 
 pub const SMP_RATE: u8 = 0x86;
 
-// Whether octets are an unsigned integer.
-fn is_unsigned(content: &[u8]) -> bool
-    ensures { result ≡ is_value (unsigned_int content.now) }
-{
-    match decode_unsigned_int(content) {
-        Unsigned::Value(_) => true,
-        Unsigned::Refused => false,
-    }
-}
-
 // Whether a field's content has a length, and a rate a value, that the frame takes.
 pub fn field_fits(tag: u8, content: &[u8]) -> bool
     ensures { result ≡ field_fits tag content.now }
@@ -45,7 +33,7 @@ pub fn field_fits(tag: u8, content: &[u8]) -> bool
         SVID => content.len() <= 64,
         DAT_SET => content.len() <= 64,
         SMP_CNT => content.len() == 2,
-        SMP_RATE => is_unsigned(content),
+        SMP_RATE => decode_unsigned_int(content).is_some(),
         _ => true,
     }
 }
@@ -54,10 +42,7 @@ pub fn field_fits(tag: u8, content: &[u8]) -> bool
 pub fn name_len(content: &[u8]) -> u8
     ensures { result ≡ valid_len (length content.now) }
 {
-    if content.len() < 64 {
-        return content.len() as u8;
-    }
-    64
+    content.len().min(64) as u8
 }
 
 // Puts a content's octets over the front of a name's, of which the others stay.
@@ -84,17 +69,7 @@ pub fn fraction_or(old: u32, time: &[u8]) -> u32
     if time.len() < 7 {
         return old;
     }
-    big_endian(content(time, 4, 3))
-}
-
-// The rate that a number gives, or the one before.
-pub fn rate_or(old: u16, rate: &[u8]) -> u16
-    ensures { result ≡ value_or old (unsigned_int rate.now) }
-{
-    let Unsigned::Value(value) = decode_unsigned_int(rate) else {
-        return old;
-    };
-    value
+    big_endian(&time[4..7])
 }
 
 // A frame with one more field of its ASDU.
@@ -119,7 +94,7 @@ pub fn with_field(frame: SvFrame, tag: u8, field: &[u8]) -> SvFrame
             out.t_fraction_of_second = fraction_or(frame.t_fraction_of_second, field);
         }
         SMP_RATE => {
-            out.smp_rate = rate_or(frame.smp_rate, field);
+            out.smp_rate = decode_unsigned_int(field).unwrap_or(frame.smp_rate);
         }
         _ => {}
     }

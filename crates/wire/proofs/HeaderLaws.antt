@@ -7,8 +7,9 @@ use native.Mathlib.Omega.{arith}
 use borrow.Author.Tests.{leb-true, le-leb, lt-leb, eq-eqb, ne_eqb}
 use lib.Dec.{eqb, leb}
 use lib.ListN.{length}
-use Rattle.wire.specs.declared.header.Apdu.TheVariants.{At, Refused}
+use Rattle.std.proofs.Common.{Option, Some, None}
 use Rattle.wire.specs.declared.header.Apdu.{Apdu}
+use Rattle.wire.specs.declared.header.Header.{Header}
 use Rattle.wire.specs.Number.{pair_at}
 use Rattle.wire.specs.Header.{appid_at, apdu_of, with_source, header}
 
@@ -21,32 +22,32 @@ appid_range octets = go (eqb (pair_at octets 12) 0x8100)
     go false = (omega arith, omega arith)
 
 module _ (type : ℕ) (octets : List ℕ) {at : ℕ} (e : at ≡ appid_at octets) where
-  pub apdu_short : length octets < at + 8 → apdu_of type octets ≡ Refused
+  pub apdu_short : length octets < at + 8 → apdu_of type octets ≡ None
   unfolding apdu_of
   apdu_short h = rw (← e, lt-leb (at + 8) (length octets) h)
 
   module _ (there : at + 8 ≤ length octets) {found : ℕ} (f : found ≡ pair_at octets (at - 2)) where
-    pub apdu_other : (found ≡ type → ⊥) → apdu_of type octets ≡ Refused
+    pub apdu_other : (found ≡ type → ⊥) → apdu_of type octets ≡ None
     unfolding apdu_of
     apdu_other n = rw (← e, le-leb (at + 8) (length octets) there, ← f, ne_eqb found type n)
 
     module _ (same : found ≡ type) {len : ℕ} (l : len ≡ pair_at octets (at + 2)) where
-      pub apdu_small : len < 8 → apdu_of type octets ≡ Refused
+      pub apdu_small : len < 8 → apdu_of type octets ≡ None
       unfolding apdu_of
       apdu_small h = rw (← e, le-leb (at + 8) (length octets) there, ← f, eq-eqb found type same, ← l, lt-leb 8 len h)
 
-      pub apdu_past : 8 ≤ len → length octets < at + len → apdu_of type octets ≡ Refused
+      pub apdu_past : 8 ≤ len → length octets < at + len → apdu_of type octets ≡ None
       unfolding apdu_of
       apdu_past h g = rw (← e, le-leb (at + 8) (length octets) there, ← f, eq-eqb found type same, ← l, le-leb 8 len h, lt-leb (at + len) (length octets) g)
 
-      pub apdu_is : 8 ≤ len → at + len ≤ length octets → apdu_of type octets ≡ At (at + 8) (at + len)
+      pub apdu_is : 8 ≤ len → at + len ≤ length octets → apdu_of type octets ≡ Some (record { start = at + 8; end = at + len })
       unfolding apdu_of
       apdu_is h g = rw (← e, le-leb (at + 8) (length octets) there, ← f, eq-eqb found type same, ← l, le-leb 8 len h, le-leb (at + len) (length octets) g)
 
 -- an APDU does not end before it starts
-pub apdu_order : (type : ℕ) (octets : List ℕ) {start end : ℕ} → (header type octets).apdu ≡ At start end → start ≤ end
+pub apdu_order : (type : ℕ) (octets : List ℕ) {h : Header} → header type octets ≡ Some h → h.apdu.start ≤ h.apdu.end
 unfolding header apdu_of
-apdu_order type octets {start} {end} e = inner (apdu_of type octets) refl e
+apdu_order type octets {h} e = inner (apdu_of type octets) refl e
   where
     at : ℕ
     at = appid_at octets
@@ -54,14 +55,18 @@ apdu_order type octets {start} {end} e = inner (apdu_of type octets) refl e
     len : ℕ
     len = pair_at octets (at + 2)
 
-    from : (a b c d : Bool) → leb 8 len ≡ c → cond (a && b && c && d) (At (at + 8) (at + len)) Refused ≡ At start end → start ≤ end
-    from true true true true q p = let s : at + 8 ≡ start = cc in let f : at + len ≡ end = cc in omega (arith, leb-true 8 len q)
-    from true true true false q p = let z : ◌≡◌ {A = ℕ} 0 1 = cc in absurd (omega arith)
-    from true true false d q p = let z : ◌≡◌ {A = ℕ} 0 1 = cc in absurd (omega arith)
-    from true false c d q p = let z : ◌≡◌ {A = ℕ} 0 1 = cc in absurd (omega arith)
-    from false b c d q p = let z : ◌≡◌ {A = ℕ} 0 1 = cc in absurd (omega arith)
+    from : (a b c d : Bool) (x : Apdu) → leb 8 len ≡ c
+        → cond (a && b && c && d) (Some (record { start = at + 8; end = at + len })) None ≡ Some x → x.start ≤ x.end
+    from true true true true x q p = let s : at + 8 ≡ x.start = cc in let f : at + len ≡ x.end = cc in omega (arith, leb-true 8 len q)
+    from true true true false x q p = absurd (cc)
+    from true true false d x q p = absurd (cc)
+    from true false c d x q p = absurd (cc)
+    from false b c d x q p = absurd (cc)
 
-    inner : (x : Apdu) → apdu_of type octets ≡ x → (with_source octets x).apdu ≡ At start end → start ≤ end
-    inner (At s f) q p =
-        from (leb (at + 8) (length octets)) (eqb (pair_at octets (at - 2)) type) (leb 8 len) (leb (at + len) (length octets)) refl (q ∙ p)
-    inner Refused q p = let z : ◌≡◌ {A = ℕ} 0 1 = cc in absurd (omega arith)
+    inner : (x : Option Apdu) → apdu_of type octets ≡ x → with_source octets x ≡ Some h → h.apdu.start ≤ h.apdu.end
+    inner (Some x) q p =
+        let s : x.start ≡ h.apdu.start = cc in
+        let f : x.end ≡ h.apdu.end = cc in
+        let w = from (leb (at + 8) (length octets)) (eqb (pair_at octets (at - 2)) type) (leb 8 len) (leb (at + len) (length octets)) x refl q in
+        omega arith
+    inner None q p = absurd (cc)

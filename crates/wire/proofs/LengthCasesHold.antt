@@ -11,7 +11,7 @@ use lib.Dec.{eqb, ltb, leb}
 use lib.ListN.{length, drop}
 use Rattle.records.proofs.Booleans.{cond_yes, and_both, and_yes}
 use Rattle.records.specs.Octets.{octet_at}
-use Rattle.wire.specs.declared.element.Length.TheVariants.{Refused}
+use Rattle.std.proofs.Common.{None}
 use Rattle.wire.specs.Element.{long_form, length_of}
 use Rattle.wire.specs.LengthCases.{LengthCase, short, indefinite, long, remainder, first_octets, fits, further_octets, read_as, LengthByCases}
 
@@ -87,7 +87,7 @@ all_right = refl
 
 -- a case that agrees reads or refuses as `length_of` does
 module _ (first : ℕ) (further : List ℕ) where
-  refused_alike : not (is_short first) && not (is_long first) ≡ true → Refused ≡ length_of (first ∷ further)
+  refused_alike : not (is_short first) && not (is_long first) ≡ true → None ≡ length_of (first ∷ further)
   unfolding long_form length_of
   refused_alike e =
       let s = and_both (not (is_short first)) (not (is_long first)) e in

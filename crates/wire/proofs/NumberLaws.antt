@@ -1,5 +1,5 @@
 -- Laws of numbers in octets, one octet at a time.
-use mathlib.Core.Path.{◌≡◌, ◌∙◌}
+use mathlib.Core.Path.{◌≡◌, sym, ◌∙◌}
 use mathlib.Core.List.{List, [], ◌∷◌}
 use Prim.Native.Nat.{ℕ, suc, ◌+◌, ◌*◌, ◌^◌, ◌≤◌, ◌<◌, min}
 use native.Mathlib.Nat.{add-zero, pow-suc, pow-le-pow_right}
@@ -13,7 +13,8 @@ use lib.Seq.{drop-cons, get_or-take, take_all}
 use Rattle.records.specs.Legal.{Octets}
 use Rattle.records.specs.Octets.{octet_at}
 use Rattle.wire.specs.Number.{big_endian_from, big_endian, unsigned_int}
-use Rattle.wire.specs.declared.number.Unsigned.TheVariants.{Value, Refused}
+use Rattle.std.proofs.Common.{Some, None, Result, Ok, Err}
+use Rattle.std.specs.Result.{OkIff, result_ok}
 
 module _ (octets : List ℕ) (value i : ℕ) where
   pub number_more :
@@ -51,21 +52,20 @@ fourth_fits i value h l = omega (arith, pow-le-pow_right {n = 256} (omega arith)
 
 -- an unsigned integer, by its length and its value
 module _ (octets : List ℕ) where
-  pub unsigned_none : length octets ≡ 0 → unsigned_int octets ≡ Refused
+  pub unsigned_none : length octets ≡ 0 → unsigned_int octets ≡ None
   unfolding unsigned_int
   unsigned_none e = rw e
 
-  pub unsigned_long : 4 < length octets → unsigned_int octets ≡ Refused
+  pub unsigned_long : 4 < length octets → unsigned_int octets ≡ None
   unfolding unsigned_int
   unsigned_long h = rw (le-leb 1 (length octets) (omega arith), lt-leb (length octets) 4 h)
 
   module _ (one : 1 ≤ length octets) (four : length octets ≤ 4) {value : ℕ} (e : value ≡ big_endian (take 4 octets)) where
-    unsigned_limited : unsigned_int octets ≡ cond (leb value 65535) (Value value) Refused
+    unsigned_limited : unsigned_int octets ≡ cond (leb value 65535) (Some value) None
     unfolding unsigned_int
     unsigned_limited = rw (le-leb 1 (length octets) one, le-leb (length octets) 4 four, e, take_all 4 octets four)
 
-    pub unsigned_is : value ≤ 65535 → unsigned_int octets ≡ Value value
-    unsigned_is h = unsigned_limited ∙ rw (le-leb value 65535 h)
-
-    pub unsigned_above : 65535 < value → unsigned_int octets ≡ Refused
-    unsigned_above h = unsigned_limited ∙ rw (lt-leb value 65535 h)
+    -- by its conversion to 16 bits
+    pub unsigned_converted : {E : Type 0} (r : Result ℕ E) → OkIff r (value < 65536) value → result_ok r ≡ unsigned_int octets
+    unsigned_converted (Ok v) c = rw (c.1) (sym (unsigned_limited ∙ rw (le-leb value 65535 (omega arith))))
+    unsigned_converted (Err x) c = sym (unsigned_limited ∙ rw (lt-leb value 65535 (omega arith)))

@@ -1,35 +1,16 @@
--- Laws of parts of a slice: a part that is cut to what there is.
-use mathlib.Core.Path.{◌≡◌, refl, sym, ◌∙◌, ap}
+-- Laws of parts of a slice.
+use mathlib.Core.Path.{◌≡◌, refl, ◌∙◌, ap}
 use mathlib.Core.List.{List, [], ◌∷◌}
 use Prim.Native.Nat.{ℕ, zero, suc, ◌+◌, ◌-◌, ◌≤◌}
 use native.Mathlib.Omega.{arith}
-use lib.ListN.{length, take, drop, length-drop, drop_of_length-le}
-use lib.Seq.{take_all, take-nil, take-take, drop-drop}
+use lib.ListN.{length, take, drop, length-drop}
+use lib.Seq.{take_all, take-take, drop-drop}
 use Rattle.records.proofs.OctetLaws.{octets_take, octets_drop}
 use Rattle.records.specs.Legal.{Octets}
 
 module _ (l : List ℕ) where
-  pub rest_of_all : drop (length l) l ≡ []
-  rest_of_all = drop_of_length-le l {i = length l} (omega arith)
-
-  -- from the end on there is nothing
-  nothing : (n : ℕ) → take n (drop (length l) l) ≡ drop (length l) l
-  nothing n = rw rest_of_all (take-nil n)
-
-  pub rest_past : (end : ℕ) → length l ≤ end → take (length l - length l) (drop (length l) l) ≡ drop end l
-  rest_past end h = nothing (length l - length l) ∙ rw (rest_of_all, drop_of_length-le l {i = end} h)
-
   pub rest-is : (end : ℕ) → take (length l - end) (drop end l) ≡ drop end l
   rest-is end = take_all (length l - end) (drop end l) (simp length-drop (omega arith))
-
-  pub content_past : (start len : ℕ) → length l ≤ start → take (length l - length l) (drop (length l) l) ≡ take len (drop start l)
-  content_past start len h = rest_past start h ∙ sym (take_all len (drop start l) (simp length-drop (omega arith)))
-
-  pub content_cut : (start len : ℕ) → length l - start ≤ len → take (length l - start) (drop start l) ≡ take len (drop start l)
-  content_cut start len h = rest-is start ∙ sym (take_all len (drop start l) (simp length-drop (omega arith)))
-
-  pub content_is : (start len : ℕ) → take (start + len - start) (drop start l) ≡ take len (drop start l)
-  content_is start len = let e : start + len - start ≡ len = omega arith in rw e
 
   -- a part of a part, counted from the whole
   pub part_part : (outer total start len : ℕ) → start + len ≤ total → take len (drop start (take total (drop outer l))) ≡ take len (drop (outer + start) l)

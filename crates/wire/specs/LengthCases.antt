@@ -1,7 +1,6 @@
 -- Request 5. The first length octet by cases (X.690 8.1.3): exactly one case fits each of the 256, and it reads or refuses as `length_of` does.
-use Rattle.std.specs.Prelude.{ℕ, ◌+◌, ◌-◌, ◌<◌, ◌≡◌, Bool, true, ◌&&◌, cond, List, ◌∷◌, leb, length, take}
+use Rattle.std.specs.Prelude.{ℕ, ◌+◌, ◌-◌, ◌<◌, ◌≡◌, Bool, true, ◌&&◌, cond, List, ◌∷◌, leb, length, take, Option, Some, None}
 use Rattle.wire.specs.declared.element.Length.{Length}
-use Rattle.wire.specs.declared.element.Length.TheVariants.{Definite, Refused}
 use Rattle.wire.specs.Element.{limited, length_of}
 use Rattle.wire.specs.Number.{big_endian}
 
@@ -25,15 +24,15 @@ abbrev pub fits : LengthCase → ℕ → Bool
 fits c first = leb (first_octets c).0 first && leb first (first_octets c).1
 
 -- 8.1.3.5: n further octets hold the length; missing ones are refused. This is `long_form` without its limits of n, which the case sets
-unfoldable pub further_octets : ℕ → List ℕ → Length
-further_octets n further = cond (leb n (length further)) (limited (n + 1) (big_endian (take n further))) Refused
+unfoldable pub further_octets : ℕ → List ℕ → Option Length
+further_octets n further = cond (leb n (length further)) (limited (n + 1) (big_endian (take n further))) None
 
 -- length octets as a case reads or refuses them, by the first octet and those after it
-abbrev pub read_as : LengthCase → ℕ → List ℕ → Length
-read_as short first further = Definite 1 first
-read_as indefinite first further = Refused
+abbrev pub read_as : LengthCase → ℕ → List ℕ → Option Length
+read_as short first further = Some (record { octets = 1; value = first })
+read_as indefinite first further = None
 read_as long first further = further_octets (first - 0x80) further
-read_as remainder first further = Refused
+read_as remainder first further = None
 
 -- of a first octet: one case fits, no other does, and with any octets after it that case reads or refuses as `length_of` does
 abbrev pub OneCase : ℕ → Type 0

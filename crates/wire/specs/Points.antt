@@ -1,13 +1,13 @@
 -- The starred reference points of 01 of this crate, as rows of the form of the crate below.
-use Rattle.std.specs.Prelude.{List, [], ◌∷◌, ◌++◌, ℕ}
+use Rattle.std.specs.Prelude.{List, [], ◌∷◌, ◌++◌, ℕ, Some, None, Ok, Err}
 use Rattle.records.specs.Points.{Point}
-use Rattle.wire.specs.Element.{element_row, element, Sought, found, missing, error, content_of}
+use Rattle.wire.specs.Element.{element_row, element, Sought, content_of}
 
 -- the octets of a part that was found
 abbrev pub found_octets : Sought → List ℕ
-found_octets (found octets) = octets
-found_octets missing = []
-found_octets (error e) = []
+found_octets (Ok (Some octets)) = octets
+found_octets (Ok None) = []
+found_octets (Err e) = []
 
 -- an element as a row, and its content
 abbrev pub element_point : List ℕ → List ℕ → Point

@@ -1,6 +1,7 @@
 -- Refusals by their numbers (01, "Element", "SV frame"): whatever the octets, what is not read is error 9, InvalidInput, and no other.
-use Rattle.std.specs.Prelude.{ℕ, List}
+use Rattle.std.specs.Prelude.{ℕ, List, option_map}
 use Rattle.records.specs.Row.{ValuesOr}
+use Rattle.wire.specs.declared.header.Header.{Header}
 use Rattle.wire.specs.Element.{length_row, head_row, element_row, length_of, head_of, element}
 use Rattle.wire.specs.Header.{apdu_row, header}
 use Rattle.wire.specs.Number.{unsigned_row, unsigned_int}
@@ -19,4 +20,4 @@ abbrev pub UnsignedRefusals : Type 0
 UnsignedRefusals = (octets : List ℕ) → ValuesOr 9 (unsigned_row (unsigned_int octets))
 
 abbrev pub ApduRefusals : Type 0
-ApduRefusals = (type : ℕ) (octets : List ℕ) → ValuesOr 9 (apdu_row (header type octets).apdu)
+ApduRefusals = (type : ℕ) (octets : List ℕ) → ValuesOr 9 (apdu_row (option_map (λ (h : Header). h.apdu) (header type octets)))

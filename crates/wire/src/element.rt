@@ -9,204 +9,175 @@ use records::error::VsError;
 
 // The length octets of an element: how many they are and the length that they state.
 #[derive(Clone, Copy)]
-pub enum Length {
-    Definite { octets: usize, value: usize },
-    Refused,
+pub struct Length {
+    pub octets: usize,
+    pub value: usize,
 }
 
 // The head of an element: its tag, where the content starts, and its length.
 #[derive(Clone, Copy)]
-pub enum Head {
-    Read { tag: u8, start: usize, len: usize },
-    Unreadable,
+pub struct Head {
+    pub tag: u8,
+    pub start: usize,
+    pub len: usize,
 }
 
 // An element at the front of some octets: its tag, where the content starts, its length, and where the rest starts.
 #[derive(Clone, Copy)]
-pub enum Element {
-    Read {
-        tag: u8,
-        start: usize,
-        len: usize,
-        end: usize,
-    },
-    Unreadable,
+pub struct Element {
+    pub tag: u8,
+    pub start: usize,
+    pub len: usize,
+    pub end: usize,
 }
 
-// A part that is sought in some octets: where it starts and its length, that it is missing, or the error that ended the reading.
+// A part of some octets: where it starts and its length.
 #[derive(Clone, Copy)]
-pub enum Part {
-    At { start: usize, len: usize },
-    Missing,
-    Error(VsError),
+pub struct Part {
+    pub start: usize,
+    pub len: usize,
 }
 
 // The length that n further octets hold; refused if some are missing or it is above 65535. `big_endian` reads four at most.
-fn further_octets(further: &[u8], n: usize) -> Length
+fn further_octets(further: &[u8], n: usize) -> Option<Length>
     requires { n ≤ 4 }
     ensures { result ≡ further_octets n further.now }
 {
     if n > further.len() {
-        return Length::Refused;
+        return None;
     }
     let value = big_endian(&further[..n]);
     if value > 65535 {
-        return Length::Refused;
+        return None;
     }
-    Length::Definite {
+    Some(Length {
         octets: n + 1,
         value: value as usize,
-    }
+    })
 }
 
 // The length octets at the front of some octets, by the cases of the first (X.690 8.1.3; there the initial octet, and subsequent ones).
-pub fn read_length(bytes: &[u8]) -> Length
+pub fn read_length(bytes: &[u8]) -> Option<Length>
     ensures { result ≡ length_of bytes.now }
 {
-    if bytes.len() == 0 {
-        return Length::Refused;
+    if bytes.is_empty() {
+        return None;
     }
     // In 32 bits: matched as an octet, it takes 2% more instructions a frame (docs/requests/05.md).
     let first = bytes[0] as u32;
     match first {
         // 8.1.3.4, short form: the first octet is the length.
-        0x00..=0x7F => Length::Definite {
+        0x00..=0x7F => Some(Length {
             octets: 1,
             value: first as usize,
-        },
+        }),
         // 8.1.3.6, indefinite form: refused.
-        0x80 => Length::Refused,
+        0x80 => None,
         // 8.1.3.5, long form: one to four further octets hold the length.
         0x81..=0x84 => further_octets(&bytes[1..], (first - 0x80) as usize),
         // 8.1.3.5, the remainder, five or more further octets and FF, which is not used (c): refused.
-        _ => Length::Refused,
+        _ => None,
     }
 }
 
 // The head of the element at the front of some octets, whatever follows it.
 #[tactic(auto, using(crate::proofs::ElementLaws::head_high))]
-pub fn read_head(bytes: &[u8]) -> Head
+pub fn read_head(bytes: &[u8]) -> Option<Head>
     ensures { result ≡ head_of bytes.now }
 {
     if bytes.len() < 2 {
-        return Head::Unreadable;
+        return None;
     }
     let tag = bytes[0];
     if tag % 32 == 31 {
-        return Head::Unreadable;
+        return None;
     }
-    let Length::Definite { octets, value } = read_length(&bytes[1..]) else {
-        return Head::Unreadable;
-    };
-    Head::Read {
-        tag: tag,
-        start: octets + 1,
-        len: value,
-    }
+    let length = read_length(&bytes[1..])?;
+    Some(Head {
+        tag,
+        start: length.octets + 1,
+        len: length.value,
+    })
 }
 
-// Whether the content ends within so many octets.
-pub fn within(tag: u8, start: usize, len: usize, total: usize) -> Element
-    ensures { result ≡ within tag start len total }
-{
-    if start > total {
-        return Element::Unreadable;
-    }
-    if len > total - start {
-        return Element::Unreadable;
-    }
-    Element::Read {
-        tag: tag,
-        start: start,
-        len: len,
-        end: start + len,
+impl Head {
+    // The element of a head, if the content ends within so many octets.
+    pub fn within(self, total: usize) -> Option<Element>
+        ensures { result ≡ within self.tag self.start self.len total }
+    {
+        if self.start > total {
+            return None;
+        }
+        if self.len > total - self.start {
+            return None;
+        }
+        Some(Element {
+            tag: self.tag,
+            start: self.start,
+            len: self.len,
+            end: self.start + self.len,
+        })
     }
 }
 
 // The element at the front of some octets.
-pub fn parse_tlv(bytes: &[u8]) -> Element
+pub fn parse_tlv(bytes: &[u8]) -> Option<Element>
     ensures { result ≡ element bytes.now }
 {
-    let Head::Read { tag, start, len } = read_head(bytes) else {
-        return Element::Unreadable;
-    };
-    within(tag, start, len, bytes.len())
-}
-
-// The content of an element: so many octets from a start on, as far as they go.
-pub fn content<'a>(bytes: &'a [u8], start: usize, len: usize) -> &'a [u8]
-    ensures { result.now ≡ take len (drop start bytes.now) }
-{
-    let n = bytes.len();
-    if start >= n {
-        return &bytes[n..];
-    }
-    if len > n - start {
-        return &bytes[start..];
-    }
-    let end = start + len;
-    &bytes[start..end]
+    read_head(bytes)?.within(bytes.len())
 }
 
 // What follows an element.
 pub fn rest<'a>(bytes: &'a [u8], end: usize) -> &'a [u8]
     ensures { result.now ≡ drop end bytes.now }
 {
-    let n = bytes.len();
-    if end >= n {
-        return &bytes[n..];
-    }
-    &bytes[end..]
+    &bytes[end.min(bytes.len())..]
+}
+
+// The content of an element: so many octets from a start on, as far as they go.
+pub fn content<'a>(bytes: &'a [u8], start: usize, len: usize) -> &'a [u8]
+    ensures { result.now ≡ take len (drop start bytes.now) }
+{
+    let from = rest(bytes, start);
+    &from[..len.min(from.len())]
 }
 
 // The element at the front of some octets is opened, if its tag is this one: its content is the part. Otherwise they are left as they are.
-pub fn opened(bytes: &[u8], tag: u8) -> Part
+pub fn opened(bytes: &[u8], tag: u8) -> Result<Option<Part>, VsError>
     ensures { result ≡ opened_place tag bytes.now }
 {
     let n = bytes.len();
     if n == 0 {
-        return Part::Missing;
+        return Ok(None);
     }
     if bytes[0] != tag {
-        return Part::At { start: 0, len: n };
+        return Ok(Some(Part { start: 0, len: n }));
     }
-    let Element::Read {
-        tag: _,
-        start,
-        len,
-        end: _,
-    } = parse_tlv(bytes)
-    else {
-        return Part::Error(VsError::InvalidInput);
+    let Some(element) = parse_tlv(bytes) else {
+        return Err(VsError::InvalidInput);
     };
-    Part::At {
-        start: start,
-        len: len,
-    }
+    Ok(Some(Part {
+        start: element.start,
+        len: element.len,
+    }))
 }
 
 // The content of the first element with this tag. Nothing after it is read.
-pub fn first_content(bytes: &[u8], tag: u8) -> Part
+pub fn first_content(bytes: &[u8], tag: u8) -> Result<Option<Part>, VsError>
     ensures { result ≡ first_place tag 0 (elements bytes.now) }
 {
     let mut at: usize = 0;
     while at < bytes.len() {
-        let Element::Read {
-            tag: other,
-            start,
-            len,
-            end,
-        } = parse_tlv(&bytes[at..])
-        else {
-            return Part::Error(VsError::InvalidInput);
+        let Some(element) = parse_tlv(&bytes[at..]) else {
+            return Err(VsError::InvalidInput);
         };
-        if other == tag {
-            return Part::At {
-                start: at + start,
-                len: len,
-            };
+        if element.tag == tag {
+            return Ok(Some(Part {
+                start: at + element.start,
+                len: element.len,
+            }));
         }
-        at = at + end;
+        at += element.end;
     }
-    Part::Missing
+    Ok(None)
 }

@@ -12,12 +12,12 @@ pub const ETHERTYPE_VLAN_8021Q: u16 = 0x8100;
 
 // Where the APDU of a frame starts and ends.
 #[derive(Clone, Copy)]
-pub enum Apdu {
-    At { start: usize, end: usize },
-    Refused,
+pub struct Apdu {
+    pub start: usize,
+    pub end: usize,
 }
 
-// The source address and the APDU; no address where the frame is refused.
+// The source address and the APDU.
 #[derive(Clone, Copy)]
 pub struct Header {
     pub src_mac: [u8; 6],
@@ -35,28 +35,28 @@ pub fn appid_at(bytes: &[u8]) -> u8
 }
 
 // Where the APDU of a frame of this EtherType starts and ends.
-pub fn apdu_of(bytes: &[u8], ethertype: u16) -> Apdu
+pub fn apdu_of(bytes: &[u8], ethertype: u16) -> Option<Apdu>
     ensures { result ≡ apdu_of ethertype bytes.now }
 {
     let at = appid_at(bytes);
     let start = at as usize;
     if bytes.len() < start + 8 {
-        return Apdu::Refused;
+        return None;
     }
     if pair_at(bytes, at - 2) != ethertype {
-        return Apdu::Refused;
+        return None;
     }
     let length = pair_at(bytes, at + 2) as usize;
     if length < 8 {
-        return Apdu::Refused;
+        return None;
     }
     if bytes.len() < start + length {
-        return Apdu::Refused;
+        return None;
     }
-    Apdu::At {
+    Some(Apdu {
         start: start + 8,
         end: start + length,
-    }
+    })
 }
 
 // The source address, octets 6 to 11.
@@ -73,20 +73,13 @@ pub fn source_of(bytes: &[u8]) -> [u8; 6]
     ]
 }
 
-pub fn ethernet_header(bytes: &[u8], ethertype: u16) -> Header
+// The source address and the APDU of a frame of this EtherType.
+pub fn ethernet_header(bytes: &[u8], ethertype: u16) -> Option<Header>
     ensures { result ≡ header ethertype bytes.now }
 {
-    match apdu_of(bytes, ethertype) {
-        Apdu::At { start, end } => Header {
-            src_mac: source_of(bytes),
-            apdu: Apdu::At {
-                start: start,
-                end: end,
-            },
-        },
-        Apdu::Refused => Header {
-            src_mac: [0; 6],
-            apdu: Apdu::Refused,
-        },
-    }
+    let apdu = apdu_of(bytes, ethertype)?;
+    Some(Header {
+        src_mac: source_of(bytes),
+        apdu,
+    })
 }

@@ -3,7 +3,7 @@
 ghost use Rattle.std.specs.Prelude.{◌≡◌, take};
 ghost use Rattle.wire.specs.Number.{big_endian, pair_at, unsigned_int};
 
-use records::octets::{least, octet_at};
+use records::octets::octet_at;
 
 // The number in two octets. The place is a `u8`, which a header's places fit, so that the next one cannot overflow.
 pub fn pair_at(bytes: &[u8], i: u8) -> u16
@@ -18,36 +18,20 @@ pub fn pair_at(bytes: &[u8], i: u8) -> u16
 pub fn big_endian(bytes: &[u8]) -> u32
     ensures { result ≡ big_endian (take 4 bytes.now) }
 {
-    let n = least(bytes.len(), 4);
+    let octets = &bytes[..bytes.len().min(4)];
     let mut value: u32 = 0;
-    let mut i: usize = 0;
-    while i < n {
-        value = value * 256 + (bytes[i] as u32);
-        i += 1;
+    for octet in octets {
+        value = value * 256 + u32::from(*octet);
     }
     value
 }
 
 // An unsigned integer of 1 to 4 octets and at most 65535.
-#[derive(Clone, Copy)]
-pub enum Unsigned {
-    Value(u16),
-    Refused,
-}
-
-pub fn decode_unsigned_int(content: &[u8]) -> Unsigned
+pub fn decode_unsigned_int(content: &[u8]) -> Option<u16>
     ensures { result ≡ unsigned_int content.now }
 {
-    let n = content.len();
-    if n == 0 {
-        return Unsigned::Refused;
+    if content.is_empty() || content.len() > 4 {
+        return None;
     }
-    if n > 4 {
-        return Unsigned::Refused;
-    }
-    let value = big_endian(content);
-    if value > 65535 {
-        return Unsigned::Refused;
-    }
-    Unsigned::Value(value as u16)
+    u16::try_from(big_endian(content)).ok()
 }

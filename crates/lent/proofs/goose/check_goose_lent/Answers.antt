@@ -14,4 +14,4 @@ returns c = let o = c.args.o.now in
     counted_checked (λ m. goose_test m (goose_read (goose_frame_of o))) c.count_frame_on.ensures
     (c.goose_checks_on.ensures
     ∙ λ i. goose_test (monitor_of c.count_frame_on.new.m)
-    (goose_read_by (name_of (c.name_at.ensures i) (octet_at o 70)) (c.goose_numbers-n.ensures i)))
+    (goose_read_by (name_of (c.octets_at.ensures i) (octet_at o 70)) (c.goose_numbers-n.ensures i)))

@@ -14,7 +14,7 @@ use Rattle.lent.proofs.goose.goose_numbers.Goals as goal
 pub returns : goal.returns
 unfolding goose_frame_of
 returns c = let o = c.args.o.now in
-    let a = c.address_of.ensures ∙ ap address_of c.mac_at.ensures in
+    let a = c.address_of.ensures ∙ ap address_of c.octets_at.ensures in
     let name = part_octets o 6 64 (omega (arith, c.requires)) in
     let h = c.name_hash.ensures ∙ λ i. fnv1a (name_of (name i) (octet_at o 70)) in
     λ i. record {

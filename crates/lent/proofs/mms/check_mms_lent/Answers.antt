@@ -11,4 +11,4 @@ unfolding mms_frame_of
 returns c = let o = c.args.o.now in
     counted_checked (λ m. mms_checks m (mms_read (mms_frame_of o))) c.count_frame_on.ensures
     (c.mms_checks_on.ensures
-    ∙ λ i. mms_checks (monitor_of c.count_frame_on.new.m) (record { domain = c.name_at-domain.ensures i; numbers = c.mms_numbers-n.ensures i }))
+    ∙ λ i. mms_checks (monitor_of c.count_frame_on.new.m) (record { domain = c.octets_at-domain.ensures i; numbers = c.mms_numbers-n.ensures i }))

@@ -1,17 +1,7 @@
--- `u16_at` meets its contract: an octet is below 256, so that no sum overflows.
-use Prim.Native.Nat.{◌+◌}
-use native.Mathlib.Omega.{arith}
+-- `u16_at` meets its contract.
+use mathlib.Core.Path.{◌∙◌}
+use Rattle.lent.proofs.OctetLaws.{number16_is}
 use Rattle.lent.proofs.octets.u16_at.Goals as goal
 
-pub overflow_cast-result : goal.overflow_cast-result
-overflow_cast-result c = omega (arith, c.shared_slice_known-1.given c.args.at)
-
-pub overflow_cast-result-2 : goal.overflow_cast-result-2
-overflow_cast-result-2 c = omega (arith, c.shared_slice_known-2-1.given (c.args.at + 1))
-
-pub overflow_mul-result : goal.overflow_mul-result
-overflow_mul-result c = omega (arith, c.shared_slice_known-2-1.given (c.args.at + 1))
-
-pub overflow_add-result-2 : goal.overflow_add-result-2
-overflow_add-result-2 c = let at = c.args.at in
-    omega (arith, c.shared_slice_known-1.given at, c.shared_slice_known-2-1.given (at + 1))
+pub returns : goal.returns
+returns c = c.from_le_bytes.ensures ∙ number16_is c.args.octets.now c.args.at c.octets_at.ensures

@@ -6,7 +6,7 @@ use Rattle.lent.proofs.sv.sv_numbers.Goals as goal
 
 pub returns : goal.returns
 unfolding sv_frame_of
-returns c = let a = c.address_of.ensures ∙ ap address_of c.mac_at.ensures in
+returns c = let a = c.address_of.ensures ∙ ap address_of c.octets_at.ensures in
     λ i. record {
       address = a i;
       seconds = c.u32_at.ensures i;

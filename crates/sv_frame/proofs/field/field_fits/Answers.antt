@@ -1,5 +1,4 @@
 -- `field_fits` meets its contract.
-use mathlib.Core.Path.{◌∙◌}
 use borrow.Author.Tests.{ne_eqb}
 use native.Mathlib.Omega.{arith}
 use Rattle.sv_frame.specs.Field.{svid_tag, dat_set_tag, smp_cnt_tag, smp_rate_tag, field_fits}
@@ -19,7 +18,7 @@ returns-in-130 c = rw c.in-130.is
 
 pub returns-in-134 : goal.returns-in-134
 unfolding field_fits
-returns-in-134 c = c.is_unsigned.ensures ∙ rw c.in-134.is
+returns-in-134 c = rw (c.is_some.ensures, c.decode_unsigned_int.ensures, c.in-134.is)
 
 pub returns-in_default : goal.returns-in_default
 unfolding field_fits

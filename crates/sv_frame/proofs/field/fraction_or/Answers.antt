@@ -13,4 +13,4 @@ returns-then-time-lt7 c = let n = length c.args.time.now in sym (cond_no _ _ (lt
 pub returns : goal.returns
 returns c = let time = c.args.time.now in
     let three = take_all 4 (take 3 (drop 4 time)) (simp length-take (omega arith)) in
-    c.big_endian.ensures ∙ rw (c.content.ensures, three) (sym (cond_yes _ _ (le-leb 7 (length time) (omega arith))))
+    c.big_endian.ensures ∙ rw three (sym (cond_yes _ _ (le-leb 7 (length time) (omega arith))))

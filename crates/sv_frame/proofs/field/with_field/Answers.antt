@@ -22,7 +22,7 @@ returns-in-132 c = rw (c.fraction_or.ensures, c.seconds_or.ensures, c.in-132.is)
 
 pub returns-in-134 : goal.returns-in-134
 unfolding with_field
-returns-in-134 c = rw (c.rate_or.ensures, c.in-134.is)
+returns-in-134 c = rw (c.unwrap_or.ensures, c.decode_unsigned_int.ensures, c.in-134.is)
 
 pub returns-in_default : goal.returns-in_default
 unfolding with_field

@@ -15,15 +15,15 @@ returns-in-129 c = rw c.in-129.is
 
 pub returns-in-130 : goal.returns-in-130
 unfolding with_place
-returns-in-130 c = rw (c.pair_at.ensures, c.in-130.is, c.content-field.ensures)
+returns-in-130 c = rw (c.pair_at.ensures, c.in-130.is)
 
 pub returns-in-132 : goal.returns-in-132
 unfolding with_place
-returns-in-132 c = rw (c.fraction_or.ensures, c.seconds_or.ensures, c.in-132.is, c.content-field.ensures)
+returns-in-132 c = rw (c.fraction_or.ensures, c.seconds_or.ensures, c.in-132.is)
 
 pub returns-in-134 : goal.returns-in-134
 unfolding with_place
-returns-in-134 c = rw (c.rate_or.ensures, c.in-134.is, c.content-field.ensures)
+returns-in-134 c = rw (c.unwrap_or.ensures, c.decode_unsigned_int.ensures, c.in-134.is)
 
 pub returns-in_default : goal.returns-in_default
 unfolding with_place

@@ -15,31 +15,31 @@ returns-in_default c = let l = c.loop-at in
 pub overflow_add-result : goal.overflow_add-result
 overflow_add-result c = let l = c.loop-at in
     let bytes = c.args.bytes.now in
-    let w = ends_at bytes l.at c.parse_tlv.ensures c.in-Read.is l.invariant.0 in
+    let w = ends_at bytes l.at c.parse_tlv.ensures c.in-Some.is l.invariant.0 in
     omega (arith, w.1, w.2)
 
-pub returns-then-other-tag : goal.returns-then-other-tag
-returns-then-other-tag c = let l = c.loop-at in
+pub returns-then-element-tag : goal.returns-then-element-tag
+returns-then-element-tag c = let l = c.loop-at in
     let bytes = c.args.bytes.now in
-    sym (l.invariant.1 ∙ place_same bytes l.at c.parse_tlv.ensures c.in-Read.is l.invariant.0 _ c.if-other-tag.true)
+    sym (l.invariant.1 ∙ place_same bytes l.at c.parse_tlv.ensures c.in-Some.is l.invariant.0 _ c.if-element-tag.true)
 
 pub overflow_add-at : goal.overflow_add-at
 overflow_add-at c = let l = c.loop-at in
     let bytes = c.args.bytes.now in
-    let w = ends_at bytes l.at c.parse_tlv.ensures c.in-Read.is l.invariant.0 in
+    let w = ends_at bytes l.at c.parse_tlv.ensures c.in-Some.is l.invariant.0 in
     omega (arith, w.1)
 
 pub loop-at-smaller : goal.loop-at-smaller
 loop-at-smaller c = let l = c.loop-at in
     let bytes = c.args.bytes.now in
-    let w = ends_at bytes l.at c.parse_tlv.ensures c.in-Read.is l.invariant.0 in
+    let w = ends_at bytes l.at c.parse_tlv.ensures c.in-Some.is l.invariant.0 in
     omega (arith, w.0, w.1)
 
 pub loop-at-preserved : goal.loop-at-preserved
 loop-at-preserved c = let l = c.loop-at in
     let bytes = c.args.bytes.now in
-    let w = ends_at bytes l.at c.parse_tlv.ensures c.in-Read.is l.invariant.0 in
-    (w.1, l.invariant.1 ∙ place_other bytes l.at c.parse_tlv.ensures c.in-Read.is l.invariant.0 _ c.if-other-tag.false)
+    let w = ends_at bytes l.at c.parse_tlv.ensures c.in-Some.is l.invariant.0 in
+    (w.1, l.invariant.1 ∙ place_other bytes l.at c.parse_tlv.ensures c.in-Some.is l.invariant.0 _ c.if-element-tag.false)
 
 pub returns : goal.returns
 returns c = let l = c.loop-at in

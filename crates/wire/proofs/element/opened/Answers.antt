@@ -17,4 +17,4 @@ returns-in_default c = let bytes = c.args.bytes.now in
 
 pub returns : goal.returns
 returns c = let bytes = c.args.bytes.now in
-    sym (opened_same _ bytes (omega arith) c.if-bytes-tag.false (sym c.parse_tlv.ensures ∙ c.in-Read.is))
+    sym (opened_same _ bytes (omega arith) c.if-bytes-tag.false (sym c.parse_tlv.ensures ∙ c.in-Some.is))

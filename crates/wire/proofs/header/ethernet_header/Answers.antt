@@ -3,10 +3,10 @@ use mathlib.Core.Path.{sym, ◌∙◌}
 use Rattle.wire.specs.Header.{header}
 use Rattle.wire.proofs.header.ethernet_header.Goals as goal
 
-pub returns-in-At : goal.returns-in-At
+pub returns-in_err-apdu : goal.returns-in_err-apdu
 unfolding header
-returns-in-At c = rw (sym c.apdu_of.ensures ∙ c.in-At.is, c.source_of.ensures)
+returns-in_err-apdu c = c.from_residual.ensures ∙ rw (sym c.apdu_of.ensures ∙ c.in_err-apdu.was)
 
-pub returns-in-Refused : goal.returns-in-Refused
+pub returns : goal.returns
 unfolding header
-returns-in-Refused c = rw (sym c.apdu_of.ensures ∙ c.in-Refused.is)
+returns c = rw (sym c.apdu_of.ensures ∙ c.in_ok-apdu.was, c.source_of.ensures)

@@ -1,19 +1,21 @@
 -- `decode_unsigned_int` meets its contract.
+use mathlib.Core.Path.{sym, ◌∙◌}
 use native.Mathlib.Omega.{arith}
-use mathlib.Core.Path.{sym}
-use Rattle.wire.proofs.NumberLaws.{unsigned_none, unsigned_long, unsigned_above, unsigned_is}
+use borrow.Author.Tests.{eqb-true, eqb-false}
+use lib.ListN.{length}
+use Rattle.wire.proofs.NumberLaws.{unsigned_none, unsigned_long, unsigned_converted}
 use Rattle.wire.proofs.number.decode_unsigned_int.Goals as goal
+use Rattle.wire.proofs.number.decode_unsigned_int.Goals.{then-is_empty-via-then-is_empty, then-is_empty-via-else-is_empty+then-content-gt4}
 
-pub returns-then-n-eq0 : goal.returns-then-n-eq0
-returns-then-n-eq0 c = let a = c.args in sym (unsigned_none a.content.now (omega arith))
-
-pub returns-then-n-gt4 : goal.returns-then-n-gt4
-returns-then-n-gt4 c = let a = c.args in sym (unsigned_long a.content.now c.if-n-gt4.true)
-
-pub returns-then-value-gt65535 : goal.returns-then-value-gt65535
-returns-then-value-gt65535 c = let a = c.args in
-    sym (unsigned_above a.content.now (omega arith) (omega arith) c.big_endian-value.ensures c.if-value-gt65535.true)
+pub returns-then-is_empty : goal.returns-then-is_empty
+returns-then-is_empty c = let content = c.args.content.now in
+    elim c.then-is_empty.branch [
+      | then-is_empty-via-then-is_empty w ↦ sym (unsigned_none content (eqb-true (length content) 0 (sym c.is_empty.ensures ∙ w.if-is_empty.true)))
+      | then-is_empty-via-else-is_empty+then-content-gt4 w ↦ sym (unsigned_long content w.if-content-gt4.true)
+    ]
 
 pub returns : goal.returns
-returns c = let a = c.args in
-    sym (unsigned_is a.content.now (omega arith) (omega arith) c.big_endian-value.ensures (omega arith))
+returns c = let content = c.args.content.now in
+    let n = eqb-false (length content) 0 (sym c.is_empty.ensures ∙ c.if-is_empty.false) in
+    c.ok.ensures.value
+    ∙ unsigned_converted content (omega arith) (omega arith) c.big_endian.ensures c.try_from.result c.try_from.ensures

@@ -1,6 +1,0 @@
--- `failed_fields` meets its contract.
-use mathlib.Core.Path.{refl}
-use Rattle.sv_frame.proofs.sv.failed_fields.Goals as goal
-
-pub returns : goal.returns
-returns c = refl
