@@ -5,6 +5,13 @@ ghost use Rattle.records.specs.Name.{valid_len, padded};
 
 use crate::octets::put_octets;
 
+// A name as a frame states it: its octets, and how many of them count.
+#[derive(Clone, Copy)]
+pub struct Name<'a> {
+    pub octets: &'a [u8; 64],
+    pub len: u8,
+}
+
 // A stated length above 64 counts as 64.
 pub fn valid_len(len: u8) -> u8
     ensures { result ≡ valid_len len }

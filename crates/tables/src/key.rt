@@ -57,14 +57,14 @@ fn sum_of(number: u64, a: u64, b: u64, c: u64, d: u64) -> u64
 
 // The key of a number and of the name that a frame states. The name is padded first: eight whole words are then read without a test. The key of an
 // empty name is made at once.
-pub fn name_key(number: u64, octets: [u8; 64], len: u8) -> [u64; 10]
-    ensures { result ≡ key_of number (name_of octets len) }
+pub fn name_key(number: u64, octets: &[u8; 64], len: u8) -> [u64; 10]
+    ensures { result ≡ key_of number (name_of octets.now len) }
 {
     if len == 0 {
         return [number, 0, 0, 0, 0, 0, 0, 0, 0, 0];
     }
     let valid = valid_len(len);
-    let name = padded(&octets, valid);
+    let name = padded(octets, valid);
     let mut key = [0u64; 10];
     for k in 0..8 {
         key[k + 2] = word_at(&name, k * 8);

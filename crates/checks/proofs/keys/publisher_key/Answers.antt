@@ -5,4 +5,4 @@ use Rattle.checks.specs.Keys.{plain_key}
 use Rattle.checks.proofs.keys.publisher_key.Goals as goal
 
 pub returns : goal.returns
-returns c = c.name_key.ensures ∙ ap plain_key (rw c.padded_octets.ensures (name_padded _ c.requires))
+returns c = c.plain_key.ensures ∙ ap plain_key (rw c.padded_octets-octets.ensures (name_padded _ c.requires))

@@ -19,5 +19,5 @@ returns-then-len-eq0 c = empty_key _ _ (omega arith) c.if-len-eq0.true
 pub returns : goal.returns
 returns c = let l = c.loop-k in
     let e : l.k ≡ 8 = omega arith in
-    let size : length c.args.octets ≡ 64 = search rules in
+    let size : length c.args.octets.now ≡ 64 = search rules in
     rw c.from.ensures (key_of_frame _ _ size _ c.valid_len-valid.ensures c.padded-name.ensures (rw e at l.invariant.1) c.sum_of.ensures)
