@@ -1,5 +1,5 @@
 -- The inspection of a sampled-values frame, decoded or raw (01, "Refusals in checking order", 3 and 14 to 20).
-use Rattle.std.specs.Prelude.{ℕ, Bool, false, ◌&&◌, not, cond, List, [], ◌++◌, eqb, ltb}
+use Rattle.std.specs.Prelude.{ℕ, Bool, false, ◌&&◌, not, cond, List, [], ◌++◌, eqb, ltb, Result, Ok, Err}
 use Rattle.records.specs.declared.frame.SvFrame.{SvFrame}
 use Rattle.records.specs.declared.result.InspectResult.{InspectResult}
 use Rattle.records.specs.Alert.{source_sv}
@@ -9,8 +9,8 @@ use Rattle.sv_frame.specs.declared.sv.Parsed.{Parsed}
 use Rattle.sv_frame.specs.declared.sv.Parsed.TheVariants.{Frame, Error}
 use Rattle.sv_frame.specs.declared.sv.ParsedSv.{ParsedSv}
 use Rattle.sv_frame.specs.Sv.{sv_frame}
-use Rattle.checks.specs.declared.sv_publisher.PublisherMatch.{PublisherMatch}
-use Rattle.checks.specs.declared.sv_publisher.PublisherMatch.TheVariants.{NotRegistered, WrongAddress, Fits}
+use Rattle.checks.specs.declared.sv_publisher.PublisherMismatch.{PublisherMismatch}
+use Rattle.checks.specs.declared.sv_publisher.PublisherMismatch.TheVariants.{NotRegistered, WrongAddress}
 use Rattle.checks.specs.declared.sv_seq.SvSeqOutcome.{SvSeqOutcome}
 use Rattle.checks.specs.declared.sv_seq.SvSeqOutcome.TheVariants.{FirstSeen, Replay, ForwardGap, CycleWrap, SuspiciousSmpGap}
 use Rattle.checks.specs.Keys.{plain_key, reservation_key}
@@ -92,10 +92,10 @@ sv_reservation f rate m = unless_hijacked (sv_time_field f.svid f.numbers rate) 
 
 -- 14. svID registered, never with this address: High 28. 15. strict, publishers exist, svID not among them: Medium 6. Otherwise the
 -- rate of the last rule that fits, none for an svID not among them
-abbrev pub sv_matched : Bool → List ℕ → PublisherMatch → RuleCheck
-sv_matched strict publishers WrongAddress = Refused WrongIed
-sv_matched strict publishers NotRegistered = cond (strict && ltb 0 (sv_publisher_count publishers)) (Refused UnknownSvid) (Rate 0)
-sv_matched strict publishers (Fits i) = Rate (publisher_rate publishers i)
+abbrev pub sv_matched : Bool → List ℕ → Result ℕ PublisherMismatch → RuleCheck
+sv_matched strict publishers (Err WrongAddress) = Refused WrongIed
+sv_matched strict publishers (Err NotRegistered) = cond (strict && ltb 0 (sv_publisher_count publishers)) (Refused UnknownSvid) (Rate 0)
+sv_matched strict publishers (Ok i) = Rate (publisher_rate publishers i)
 
 unfoldable pub sv_rule : Monitor → ℕ → List ℕ → RuleCheck
 sv_rule m address svid = sv_matched (strict_mode m) m.sv_publishers (sv_publisher m.sv_publishers address svid)
