@@ -3,7 +3,7 @@ use Rattle.std.specs.Prelude.{ℕ, min, ◌-◌, ◌^◌, Bool, false, ◌&&◌,
 use Rattle.std.proofs.Math.Option.{Option, none, some}
 use Rattle.records.specs.declared.schedule.RetxSchedule.{RetxSchedule}
 use Rattle.records.specs.Schedule.{expected_interval, within_tolerance}
-use Rattle.checks.specs.declared.goose_seq.GooseNumbers.{GooseNumbers}
+use Rattle.checks.specs.declared.goose_seq.StreamNumbers.{StreamNumbers}
 use Rattle.tables.specs.Column.{word_of}
 use Rattle.tables.specs.Named.{named}
 use Rattle.tables.specs.Table.{Columns, value_of, stepped}
@@ -13,8 +13,8 @@ use Rattle.tables.specs.WordTable.{three_numbers, word_table}
 abbrev pub goose_streams : Columns (List ℕ) (List ℕ) ((ℕ × ℕ) × ℕ)
 goose_streams = word_table named three_numbers
 
--- a frame's numbers and time
-abbrev pub numbers_of : GooseNumbers ℕ → (ℕ × ℕ) × ℕ
+-- a stream's numbers and time
+abbrev pub numbers_of : StreamNumbers ℕ → (ℕ × ℕ) × ℕ
 numbers_of n = ((n.st_num, n.sq_num), n.timestamp_us)
 
 -- those of a slot

@@ -16,16 +16,16 @@ const SEQUENCES: usize = VALUES + 16;
 
 const TIMES: usize = VALUES + 32;
 
-// A frame's numbers and time: numbers of 32 bits in a frame, words in a table.
+// A stream's numbers and time: numbers of 32 bits in a frame, words in a table.
 #[derive(Clone, Copy)]
-pub struct GooseNumbers<T> {
+pub struct StreamNumbers<T> {
     pub st_num: T,
     pub sq_num: T,
     pub timestamp_us: u64,
 }
 
 // Whether a frame's numbers are not above the last ones of its stream.
-fn replays(last: GooseNumbers<u64>, new: GooseNumbers<u32>) -> bool
+fn replays(last: StreamNumbers<u64>, new: StreamNumbers<u32>) -> bool
     ensures { result ≡ replays (last.st_num, last.sq_num) (new.st_num, new.sq_num) }
 {
     let state = new.st_num as u64;
@@ -39,7 +39,7 @@ fn replays(last: GooseNumbers<u64>, new: GooseNumbers<u32>) -> bool
 }
 
 // The same if the stream is known.
-fn goose_replay(last: Option<GooseNumbers<u64>>, new: GooseNumbers<u32>) -> bool
+fn goose_replay(last: Option<StreamNumbers<u64>>, new: StreamNumbers<u32>) -> bool
     ensures { result ≡ goose_replay (known_of (option_map numbers_of last)) (new.st_num, new.sq_num) }
 {
     match last {
@@ -49,13 +49,13 @@ fn goose_replay(last: Option<GooseNumbers<u64>>, new: GooseNumbers<u32>) -> bool
 }
 
 // The numbers to keep: a replay keeps the last ones.
-fn numbers_or(replay: bool, last: GooseNumbers<u64>, new: GooseNumbers<u32>) -> GooseNumbers<u64>
+fn numbers_or(replay: bool, last: StreamNumbers<u64>, new: StreamNumbers<u32>) -> StreamNumbers<u64>
     ensures { numbers_of result ≡ cond replay (numbers_of last) (numbers_of new) }
 {
     if replay {
         return last;
     }
-    GooseNumbers {
+    StreamNumbers {
         st_num: new.st_num as u64,
         sq_num: new.sq_num as u64,
         timestamp_us: new.timestamp_us,
@@ -72,8 +72,8 @@ fn observed_us(elapsed_us: u64) -> u32
 // Whether a repetition of the last state came too early or too late.
 fn outside_tolerance(
     schedule: RetxSchedule,
-    last: GooseNumbers<u64>,
-    new: GooseNumbers<u32>,
+    last: StreamNumbers<u64>,
+    new: StreamNumbers<u32>,
 ) -> bool
     ensures { result ≡ outside_tolerance schedule (numbers_of last) (numbers_of new) }
 {
@@ -92,11 +92,11 @@ fn outside_tolerance(
 }
 
 // The numbers of a slot.
-fn numbers_at(t: &[u64], slot: usize) -> GooseNumbers<u64>
+fn numbers_at(t: &[u64], slot: usize) -> StreamNumbers<u64>
     requires { (length t.now ≡ 210) × (slot < 16) }
     ensures { numbers_of result ≡ numbers_at t.now slot }
 {
-    GooseNumbers {
+    StreamNumbers {
         st_num: t[STATES + slot],
         sq_num: t[SEQUENCES + slot],
         timestamp_us: t[TIMES + slot],
@@ -108,7 +108,7 @@ pub fn retx_anomaly(
     t: &[u64],
     key: &[u64; 10],
     schedule: RetxSchedule,
-    new: GooseNumbers<u32>,
+    new: StreamNumbers<u32>,
 ) -> bool
     requires { length t.now ≡ 210 }
     ensures { result ≡ retx_checked schedule t.now key.now (numbers_of new) }
@@ -120,7 +120,7 @@ pub fn retx_anomaly(
 }
 
 // Checks a frame's numbers in the table of streams, and answers whether it is a replay.
-pub fn check_goose_seq_in(t: &mut [u64], key: &[u64; 10], new: GooseNumbers<u32>) -> bool
+pub fn check_goose_seq_in(t: &mut [u64], key: &[u64; 10], new: StreamNumbers<u32>) -> bool
     requires { length t.old ≡ 210 }
     ensures { record { table = t.new; replay = result } ≡ goose_checked t.old key.now (numbers_of new) }
 {

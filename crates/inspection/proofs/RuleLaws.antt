@@ -11,8 +11,7 @@ use lib.Seq.{get_or-set_same}
 use Rattle.records.specs.declared.error.VsError.{VsError}
 use Rattle.tables.specs.Column.{word_set}
 use Rattle.tables.specs.Named.{key_stored}
-use Rattle.checks.specs.declared.rules.Added.{Added}
-use Rattle.checks.specs.declared.rules.Added.TheVariants.{Rule, Error}
+use Rattle.std.specs.Prelude.{Result, Ok, Err}
 use Rattle.checks.proofs.RuleLaws.{list_full}
 use Rattle.checks.specs.GoosePublisher.{goose_publisher_count, with_goose_publisher, goose_added}
 use Rattle.checks.specs.Keys.{flag_word, plain_key}
@@ -21,8 +20,8 @@ use Rattle.checks.specs.Rules.{rule_count, add_answer, if_added}
 use Rattle.checks.specs.SvPublisher.{sv_publisher_count, with_sv_publisher, sv_added}
 
 -- a refused call leaves the list that was
-pub not_added : {A : Type 0} (put : List ℕ → A) (new old : List ℕ) (answer : Added) (e : VsError) → answer ≡ Error e → put (if_added answer new old) ≡ put old
-not_added put new old answer e h = ap (λ (a : Added). put (if_added a new old)) h
+pub not_added : {A : Type 0} (put : List ℕ → A) (new old : List ℕ) (answer : Result (Unit {0}) VsError) (e : VsError) → answer ≡ Err e → put (if_added answer new old) ≡ put old
+not_added put new old answer e h = ap (λ (a : Result (Unit {0}) VsError). put (if_added a new old)) h
 
 -- a count that is set, also behind the end of a list, where there is none
 count_set : (l : List ℕ) (place n : ℕ) → n ≤ 16 → get_or (set l place n) place 0 ≤ 16
@@ -33,15 +32,15 @@ count_set l place n h =
 
 -- a list is given one more rule, behind the others, only where it is not full
 module _ (rules longer : List ℕ) (place len : ℕ) where
-  abbrev added : Added → List ℕ
+  abbrev added : Result (Unit {0}) VsError → List ℕ
   added answer = if_added answer (set longer place (rule_count (get_or rules place 0) + 1)) rules
 
   counts_added : get_or rules place 0 ≤ 16 → get_or (added (add_answer (get_or rules place 0) len)) place 0 ≤ 16
   counts_added h = go (dec_lt (get_or rules place 0) 16)
     where
-      left : (answer : Added) → get_or rules place 0 < 16 → get_or (added answer) place 0 ≤ 16
-      left Rule k = count_set longer place _ (omega arith)
-      left (Error e) k = h
+      left : (answer : Result (Unit {0}) VsError) → get_or rules place 0 < 16 → get_or (added answer) place 0 ≤ 16
+      left (Ok u) k = count_set longer place _ (omega arith)
+      left (Err e) k = h
 
       go : Dec (get_or rules place 0 < 16) → get_or (added (add_answer (get_or rules place 0) len)) place 0 ≤ 16
       go (yes k) = left (add_answer (get_or rules place 0) len) k

@@ -7,8 +7,7 @@ use lib.Dec.{eqb, ltb}
 use lib.ListN.{length, get_or, set, length-set}
 use Rattle.records.proofs.Booleans.{cond_holds}
 use Rattle.records.proofs.NameLaws.{length_overwritten}
-use Rattle.records.specs.declared.search.Found.{Found}
-use Rattle.records.specs.declared.search.Found.TheVariants.{At, Nothing}
+use Rattle.std.specs.Prelude.{Option, Some, None, Result, Ok, Err}
 use Rattle.records.specs.Remembered.{after}
 use Rattle.tables.proofs.OrderLaws.{length_reranked, rank_set_only, used_only}
 use Rattle.tables.proofs.WordTables.{length_none, length_zero}
@@ -19,8 +18,7 @@ use Rattle.tables.specs.Order.{rank_set, used_slot}
 use Rattle.tables.specs.Place.{KeyColumns, found}
 use Rattle.tables.specs.Table.{target, value_of, stepped}
 use Rattle.tables.specs.WordTable.{Encoding, value_set, word_table, one_number, two_numbers, three_numbers}
-use Rattle.checks.specs.declared.rules.Added.{Added}
-use Rattle.checks.specs.declared.rules.Added.TheVariants as added
+use Rattle.records.specs.declared.error.VsError.{VsError}
 use Rattle.checks.specs.GoosePublisher.{goose_publisher_count, with_goose_publisher, goose_added}
 use Rattle.checks.specs.GooseSeq.{kept_numbers, goose_checked}
 use Rattle.checks.specs.MmsRule.{mms_rule_count, with_mms_rule, mms_added}
@@ -93,27 +91,27 @@ module _ (t : List ℕ) where
   unfolding rate_checked
   rate_long key rate time = stepped_long numbered three_numbers (λ u slot k. word_long u 2 slot k) new_bucket next_bucket t key (rate, time)
 
-  bound_long : (address : ℕ) (f : Found) → AsLong t (bound_by t address f).table
+  bound_long : (address : ℕ) (f : Option ℕ) → AsLong t (bound_by t address f).table
   unfolding bound_at
-  bound_long address Nothing = refl
-  bound_long address (At i) = cond_holds (λ (c : CbChecked). AsLong t c.table) (eqb (word_of t 178 i) 0) (simp word_long refl) refl
+  bound_long address None = refl
+  bound_long address (Some i) = cond_holds (λ (c : CbChecked). AsLong t c.table) (eqb (word_of t 178 i) 0) (simp word_long refl) refl
 
   pub cb_long : (key : List ℕ) (address : ℕ) → AsLong t (cb_checked t key address).table
   unfolding cb_checked
   cb_long key address = cond_holds (λ (c : CbChecked). AsLong t c.table) (eqb (get_or key 1 0) 0) refl (bound_long address (found named t key))
 
-  taken_long : (key : List ℕ) (client : ℕ) (f : Found) → AsLong t (reserved_at t key client f).table
+  taken_long : (key : List ℕ) (client : ℕ) (f : Option ℕ) → AsLong t (reserved_at t key client f).table
   unfolding taken_at
-  taken_long key client Nothing = refl
-  taken_long key client (At i) = simp (word_long, rank_long, key_long) refl
+  taken_long key client None = refl
+  taken_long key client (Some i) = simp (word_long, rank_long, key_long) refl
 
   pub reserved_long : (key : List ℕ) (client : ℕ) → AsLong t (reserved t key client).table
   unfolding reserved
   reserved_long key client = taken_long key client (place_for t key)
 
-  freed_long : (f : Found) → AsLong t (freed_slot t f)
-  freed_long Nothing = refl
-  freed_long (At i) = rank_long t i 16
+  freed_long : (f : Option ℕ) → AsLong t (freed_slot t f)
+  freed_long None = refl
+  freed_long (Some i) = rank_long t i 16
 
   pub released_long : (key : List ℕ) (client : ℕ) → AsLong t (released t key client)
   unfolding released all_freed
@@ -122,9 +120,9 @@ module _ (t : List ℕ) where
 -- ---- the add calls
 
 module _ (t : List ℕ) where
-  added_long : (answer : Added) (new : List ℕ) → AsLong t new → AsLong t (if_added answer new t)
-  added_long added.Rule new e = e
-  added_long (added.Error r) new e = refl
+  added_long : (answer : Result (Unit {0}) VsError) (new : List ℕ) → AsLong t new → AsLong t (if_added answer new t)
+  added_long (Ok u) new e = e
+  added_long (Err r) new e = refl
 
   pub mms_added_long : (mask : ℕ) (read_only : Bool) (rate : ℕ) → AsLong t (mms_added t mask read_only rate).rules
   unfolding mms_added with_mms_rule

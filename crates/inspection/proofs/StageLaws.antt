@@ -13,7 +13,7 @@ use Rattle.records.specs.declared.frame.MmsFrame.{MmsFrame}
 use Rattle.records.specs.declared.frame.SvFrame.{SvFrame}
 use Rattle.records.specs.declared.result.InspectResult.{InspectResult}
 use Rattle.records.specs.declared.schedule.RetxSchedule.{RetxSchedule}
-use Rattle.records.specs.declared.search.Found.{Found}
+use Rattle.std.specs.Prelude.{Option, Result, Err}
 use Rattle.records.specs.Alert.{source_sv}
 use Rattle.records.specs.Hash.{fnv1a}
 use Rattle.records.specs.Result.{clean_result}
@@ -22,8 +22,8 @@ use Rattle.records.specs.Service.{service_number, is_write}
 use Rattle.records.proofs.Booleans.{and-true, and-false, and_yes, and_no, answered, cond_yes, cond_no}
 use Rattle.std.proofs.Common.{Result, Ok, Err}
 use Rattle.sv_frame.specs.Sv.{sv_frame}
-use Rattle.checks.specs.declared.sv_publisher.PublisherMatch.{PublisherMatch}
-use Rattle.checks.specs.declared.sv_publisher.PublisherMatch.TheVariants.{NotRegistered}
+use Rattle.checks.specs.declared.sv_publisher.PublisherMismatch.{PublisherMismatch}
+use Rattle.checks.specs.declared.sv_publisher.PublisherMismatch.TheVariants.{NotRegistered}
 use Rattle.checks.specs.declared.sv_seq.SvSeqOutcome.{SvSeqOutcome}
 use Rattle.checks.specs.declared.sv_seq.SvSeqOutcome.TheVariants.{FirstSeen, Replay, ForwardGap, CycleWrap, SuspiciousSmpGap}
 use Rattle.checks.specs.GoosePublisher.{goose_publisher_count, goose_publisher}
@@ -84,7 +84,7 @@ counted_checked checks x y = y ∙ ap checks x
 
 -- ---- SV
 
-none_match : (p : List ℕ) (address : ℕ) (svid : List ℕ) → sv_publisher_count p ≡ 0 → sv_publisher p address svid ≡ NotRegistered
+none_match : (p : List ℕ) (address : ℕ) (svid : List ℕ) → sv_publisher_count p ≡ 0 → sv_publisher p address svid ≡ Err NotRegistered
 unfolding sv_publisher last_below
 none_match p address svid e = rw e
 
@@ -99,19 +99,19 @@ module _ (m : Monitor) (address : ℕ) (svid : List ℕ) where
 
   -- by how the svID and the address match
   pub rule_matched :
-      {match : PublisherMatch} (way : PublisherMatch) → match ≡ sv_publisher m.sv_publishers address svid → match ≡ way
+      {match : Result ℕ PublisherMismatch} (way : Result ℕ PublisherMismatch) → match ≡ sv_publisher m.sv_publishers address svid → match ≡ way
       → sv_matched (strict_mode m) m.sv_publishers way ≡ sv_rule m address svid
   unfolding sv_rule
   rule_matched way e h = ap (sv_matched (strict_mode m) m.sv_publishers) (sym h ∙ e)
 
   pub not_registered :
-      {match : PublisherMatch} {count : ℕ} {strict : Bool} → match ≡ sv_publisher m.sv_publishers address svid → match ≡ NotRegistered
+      {match : Result ℕ PublisherMismatch} {count : ℕ} {strict : Bool} → match ≡ sv_publisher m.sv_publishers address svid → match ≡ Err NotRegistered
       → count ≡ sv_publisher_count m.sv_publishers → ¬ (count ≡ 0) → strict ≡ strict_mode m
       → cond strict (Err UnknownSvid) (Ok 0) ≡ sv_rule m address svid
   not_registered e h c d s =
       ap (λ (b : Bool). cond b (Err UnknownSvid) (Ok 0))
       (s ∙ sym (ap (λ (b : Bool). strict_mode m && b) (answered (ap (ltb 0) c) (nonzero _ d)) ∙ and-true (strict_mode m)))
-      ∙ rule_matched NotRegistered e h
+      ∙ rule_matched (Err NotRegistered) e h
 
 -- the rate's alert follows the count's unless that is a replay
 pub count_then_rate :
@@ -187,11 +187,11 @@ module _ (m : Monitor) (address : ℕ) (name : List ℕ) {count : ℕ} (e : coun
   unknown_to_none h = rw (answered e h)
 
   pub unknown_unless_found :
-      (way : Found) {x : Found} → ¬ (count ≡ 0) → x ≡ goose_publisher m.goose_publishers address name → x ≡ way
+      (way : Option ℕ) {x : Option ℕ} → ¬ (count ≡ 0) → x ≡ goose_publisher m.goose_publishers address name → x ≡ way
       → not (is_found way) ≡ goose_unknown m address name
   unfolding goose_unknown
   unknown_unless_found way d q h =
-      ap (λ (x : Found). not (is_found x)) (sym h ∙ q) ∙ sym (and_yes (answered (ap (ltb 0) e) (nonzero _ d)) refl)
+      ap (λ (x : Option ℕ). not (is_found x)) (sym h ∙ q) ∙ sym (and_yes (answered (ap (ltb 0) e) (nonzero _ d)) refl)
 
 pub clock_and_stream :
     (n : GooseNumbers) (m : Monitor) {timed stored : Monitor} {alert outside replay : Bool} {key : List ℕ} {a : List Finding}

@@ -9,7 +9,6 @@ use Rattle.records.specs.Result.{clean_result}
 use Rattle.records.specs.Row.{ValuesOr}
 use Rattle.records.specs.declared.frame.SvFrame.{SvFrame}
 use Rattle.sv_frame.specs.Sv.{parsed_row, sv_frame}
-use Rattle.checks.specs.declared.rules.Added.TheVariants as added
 use Rattle.checks.specs.Rules.{AddNumbers}
 use Rattle.checks.specs.GoosePublisher.{goose_publisher_count}
 use Rattle.checks.specs.MmsRule.{mms_rule_count}
@@ -164,11 +163,11 @@ AlertNumbersConsecutive =
 
 -- a call that is answered by an error
 pub data AnsweredByError (m : Monitor) : Call → Type 0 where
-  mms_rule_error : (mask : ℕ) (on : Bool) (rate : ℕ) (e : VsError) → (mms_added_on m mask on rate).answer ≡ added.Error e
+  mms_rule_error : (mask : ℕ) (on : Bool) (rate : ℕ) (e : VsError) → (mms_added_on m mask on rate).answer ≡ Err e
       → AnsweredByError m (setting (new_mms_rule mask on rate))
-  goose_publisher_error : (mac name : List ℕ) (e : VsError) → (goose_added_on m (address_of mac) name).answer ≡ added.Error e
+  goose_publisher_error : (mac name : List ℕ) (e : VsError) → (goose_added_on m (address_of mac) name).answer ≡ Err e
       → AnsweredByError m (setting (new_goose_publisher mac name))
-  sv_publisher_error : (mac svid : List ℕ) (rate : ℕ) (e : VsError) → (sv_added_on m (address_of mac) svid rate).answer ≡ added.Error e
+  sv_publisher_error : (mac svid : List ℕ) (rate : ℕ) (e : VsError) → (sv_added_on m (address_of mac) svid rate).answer ≡ Err e
       → AnsweredByError m (setting (new_sv_publisher mac svid rate))
   raw_frame_error : (octets : List ℕ) (time : ℕ) (e : VsError) → (inspect_raw_sv m octets time).answer.answer ≡ Err e
       → AnsweredByError m (raw_sv octets time)

@@ -1,9 +1,7 @@
 -- The inspection of an MMS frame (01, "Refusals in checking order", 4 to 8; "Remembered tables", reservation).
-use Rattle.std.specs.Prelude.{ℕ, Bool, false, ◌&&◌, ◌||◌, not, cond, List, [], eqb, ltb, Result, Ok, Err}
+use Rattle.std.specs.Prelude.{ℕ, Bool, false, ◌&&◌, ◌||◌, not, cond, List, [], eqb, ltb, Result, Ok, Err, Option, Some, None}
 use Rattle.records.specs.declared.frame.MmsFrame.{MmsFrame}
 use Rattle.records.specs.declared.result.InspectResult.{InspectResult}
-use Rattle.records.specs.declared.search.Found.{Found}
-use Rattle.records.specs.declared.search.Found.TheVariants.{At, Nothing}
 use Rattle.records.specs.Alert.{source_mms}
 use Rattle.records.specs.Name.{name_of}
 use Rattle.records.specs.Service.{service_number, is_write}
@@ -80,9 +78,9 @@ module _ (f : MmsRead) where
   mms_rate rate m = unless_over (over_rate m f.numbers.invoke_id rate f.numbers.timestamp_us)
 
 -- 6. the applying rule is read-only and a write comes: High 2; otherwise its rate. 8. strict, rules exist, none applies: Medium 16
-abbrev pub mms_applying : Bool → List ℕ → Bool → Found → Result ℕ CheckAlert
-mms_applying strict rules write (At i) = cond (rule_read_only rules i && write) (Err WriteRefused) (Ok (rule_rate rules i))
-mms_applying strict rules write Nothing = cond (strict && ltb 0 (mms_rule_count rules)) (Err NoRule) (Ok 0)
+abbrev pub mms_applying : Bool → List ℕ → Bool → Option ℕ → Result ℕ CheckAlert
+mms_applying strict rules write (Some i) = cond (rule_read_only rules i && write) (Err WriteRefused) (Ok (rule_rate rules i))
+mms_applying strict rules write None = cond (strict && ltb 0 (mms_rule_count rules)) (Err NoRule) (Ok 0)
 
 -- whether a mask refuses a raw number: it is nonzero, and the number is 16 or above or its bit is not in it
 unfoldable pub masked : ℕ → ℕ → Bool

@@ -7,8 +7,8 @@ use Rattle.records.specs.Alert.{source_sv}
 use Rattle.records.specs.Name.{name_of}
 use Rattle.records.specs.Result.{clean_result}
 use Rattle.sv_frame.specs.Sv.{sv_frame}
-use Rattle.checks.specs.declared.sv_publisher.PublisherMatch.{PublisherMatch}
-use Rattle.checks.specs.declared.sv_publisher.PublisherMatch.TheVariants.{NotRegistered, WrongAddress, Fits}
+use Rattle.checks.specs.declared.sv_publisher.PublisherMismatch.{PublisherMismatch}
+use Rattle.checks.specs.declared.sv_publisher.PublisherMismatch.TheVariants.{NotRegistered, WrongAddress}
 use Rattle.checks.specs.declared.sv_seq.SvSeqOutcome.{SvSeqOutcome}
 use Rattle.checks.specs.declared.sv_seq.SvSeqOutcome.TheVariants.{FirstSeen, Replay, ForwardGap, CycleWrap, SuspiciousSmpGap}
 use Rattle.checks.specs.Keys.{plain_key, reservation_key}
@@ -90,10 +90,10 @@ sv_reservation f rate m = unless_hijacked (sv_time_field f.svid f.numbers rate) 
 
 -- 14. svID registered, never with this address: High 28. 15. strict, publishers exist, svID not among them: Medium 6. Otherwise the
 -- rate of the last rule that fits, none for an svID not among them
-abbrev pub sv_matched : Bool → List ℕ → PublisherMatch → Result ℕ CheckAlert
-sv_matched strict publishers WrongAddress = Err WrongIed
-sv_matched strict publishers NotRegistered = cond (strict && ltb 0 (sv_publisher_count publishers)) (Err UnknownSvid) (Ok 0)
-sv_matched strict publishers (Fits i) = Ok (publisher_rate publishers i)
+abbrev pub sv_matched : Bool → List ℕ → Result ℕ PublisherMismatch → Result ℕ CheckAlert
+sv_matched strict publishers (Err WrongAddress) = Err WrongIed
+sv_matched strict publishers (Err NotRegistered) = cond (strict && ltb 0 (sv_publisher_count publishers)) (Err UnknownSvid) (Ok 0)
+sv_matched strict publishers (Ok i) = Ok (publisher_rate publishers i)
 
 unfoldable pub sv_rule : Monitor → ℕ → List ℕ → Result ℕ CheckAlert
 sv_rule m address svid = sv_matched (strict_mode m) m.sv_publishers (sv_publisher m.sv_publishers address svid)

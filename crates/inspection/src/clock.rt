@@ -5,7 +5,7 @@ ghost use Rattle.monitor.specs.Monitor.{monitor_of};
 ghost use Rattle.monitor.specs.Parts.{time_field_on};
 ghost use Rattle.monitor.specs.Settings.{time_max_forward_jump};
 
-use checks::time_field::has_clock;
+use checks::time_field::ClockPair;
 use monitor::parts::{WORDS, check_time_field_on};
 use monitor::settings::time_max_forward_jump_s_on;
 
@@ -14,9 +14,10 @@ pub fn clock_checked(m: &mut [u64; WORDS], address: u64, seconds: u32, fraction:
     ensures { record { monitor = monitor_of m.new; answer = result }
         ≡ time_field_on (monitor_of m.old) (time_max_forward_jump (monitor_of m.old)) address (seconds, fraction) }
 {
-    if has_clock(seconds, fraction) {
+    let pair = ClockPair { seconds, fraction };
+    if pair.has_clock() {
         let limit = time_max_forward_jump_s_on(m);
-        return check_time_field_on(m, limit, address, seconds, fraction);
+        return check_time_field_on(m, limit, address, pair);
     }
     false
 }

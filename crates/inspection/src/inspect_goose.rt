@@ -3,9 +3,10 @@
 ghost use Rattle.std.specs.Prelude.{◌≡◌, true, ◌++◌, length};
 ghost use Rattle.records.specs.Hash.{fnv1a};
 ghost use Rattle.records.specs.Name.{name_of};
+ghost use Rattle.checks.specs.GooseSeq.{numbers_of};
 ghost use Rattle.checks.specs.Keys.{plain_key, reservation_key};
 ghost use Rattle.monitor.specs.Monitor.{monitor_of};
-ghost use Rattle.inspection.specs.InspectGoose.{stream_findings, retransmitted, goose_time_field, goose_reservation, goose_unknown};
+ghost use Rattle.inspection.specs.InspectGoose.{timed_numbers, stream_findings, retransmitted, goose_time_field, goose_reservation, goose_unknown};
 ghost use Rattle.inspection.specs.InspectGoose.{goose_read_by, goose_test, blocked, checked_goose, inspect_goose};
 ghost use Rattle.inspection.specs.Report.{clock_findings, findings_in, alerts_of};
 
@@ -13,6 +14,7 @@ use crate::address::address_of;
 use crate::clock::clock_checked;
 use crate::hijack::hijacked;
 use crate::report::{AlertSource, CheckAlert, CheckAlerts, clock_alert, one_alert, report_on};
+use checks::goose_seq::StreamNumbers;
 use checks::keys::{goose_key, plain_key};
 use monitor::parts::{
     WORDS, check_goose_seq_on, goose_publisher_count_on, goose_publisher_on, retx_anomaly_on,
@@ -24,7 +26,6 @@ use records::frame::GooseFrame;
 use records::hash::fnv1a_32;
 use records::name::valid_len;
 use records::result::InspectResult;
-use records::search::Found;
 
 // What the checks read of a frame beside its control block's name.
 #[derive(Clone, Copy)]
@@ -59,6 +60,17 @@ fn goose_alerts(clock: bool, replay: bool, outside: bool) -> CheckAlerts
     [clock_alert(clock), stream_alert(replay, outside), None]
 }
 
+// The numbers of its stream.
+fn stream_numbers(n: GooseNumbers) -> StreamNumbers<u32>
+    ensures { numbers_of result ≡ timed_numbers n }
+{
+    StreamNumbers {
+        st_num: n.st_num,
+        sq_num: n.sq_num,
+        timestamp_us: n.timestamp_us,
+    }
+}
+
 // Whether a retransmission is outside tolerance; asked only with enforcement on.
 fn retransmitted(m: &[u64; WORDS], n: GooseNumbers) -> bool
     ensures { result ≡ retransmitted (monitor_of m.now) n }
@@ -66,7 +78,7 @@ fn retransmitted(m: &[u64; WORDS], n: GooseNumbers) -> bool
     if flag_on(m, RETX_ENFORCE) {
         let schedule = retx_schedule_on(m);
         let key = goose_key(n.address, n.hash);
-        return retx_anomaly_on(m, &key, schedule, n.st_num, n.sq_num, n.timestamp_us);
+        return retx_anomaly_on(m, &key, schedule, stream_numbers(n));
     }
     false
 }
@@ -78,7 +90,7 @@ fn goose_time_field(m: &mut [u64; WORDS], n: GooseNumbers) -> CheckAlerts
     let clock = clock_checked(m, n.address, n.seconds, n.fraction);
     let outside = retransmitted(m, n);
     let key = goose_key(n.address, n.hash);
-    let replay = check_goose_seq_on(m, &key, n.st_num, n.sq_num, n.timestamp_us);
+    let replay = check_goose_seq_on(m, &key, stream_numbers(n));
     goose_alerts(clock, replay, outside)
 }
 
@@ -100,10 +112,7 @@ fn goose_unknown(m: &[u64; WORDS], address: u64, name: &[u8; 64], len: u8) -> bo
     if goose_publisher_count_on(m) == 0 {
         return false;
     }
-    match goose_publisher_on(m, address, &plain_key(*name, len)) {
-        Found::At(_) => false,
-        Found::Nothing => true,
-    }
+    goose_publisher_on(m, address, &plain_key(*name, len)).is_none()
 }
 
 // 9: whether a frame is a test frame while blocked.

@@ -19,7 +19,6 @@ use monitor::totals::{MMS_TOTAL_INSPECTED, count_frame_on};
 use records::alert::SOURCE_IEC61850_MMS;
 use records::frame::MmsFrame;
 use records::result::InspectResult;
-use records::search::Found;
 
 // What the checks read of a frame beside the name that a control action states.
 #[derive(Clone, Copy)]
@@ -45,17 +44,17 @@ fn masked(mask: u64, raw: u8) -> bool
 }
 
 // What the rule that applies says of a frame, or the lack of one.
-fn mms_applying(m: &[u64; WORDS], found: Found, write: bool) -> Result<u16, CheckAlert>
+fn mms_applying(m: &[u64; WORDS], found: Option<usize>, write: bool) -> Result<u16, CheckAlert>
     ensures { result ≡ mms_applying (strict_mode (monitor_of m.now)) (monitor_of m.now).mms_rules write found }
 {
     match found {
-        Found::At(i) => {
+        Some(i) => {
             if rule_read_only_on(m, i) && write {
                 return Err(CheckAlert::WriteRefused);
             }
             Ok(rule_rate_on(m, i))
         }
-        Found::Nothing => {
+        None => {
             let count = mms_rule_count_on(m);
             if flag_on(m, STRICT_MODE) && count > 0 {
                 return Err(CheckAlert::NoRule);

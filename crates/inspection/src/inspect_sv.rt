@@ -15,7 +15,7 @@ use crate::clock::clock_checked;
 use crate::hijack::hijacked;
 use crate::report::{AlertSource, CheckAlert, CheckAlerts, clock_alert, one_alert, report_on};
 use checks::keys::plain_key;
-use checks::sv_publisher::PublisherMatch;
+use checks::sv_publisher::PublisherMismatch;
 use checks::sv_seq::SvSeqOutcome;
 use monitor::parts::{
     WORDS, check_sv_seq_on, publisher_rate_on, sv_publisher_count_on, sv_publisher_on,
@@ -140,14 +140,14 @@ fn sv_rule(m: &[u64; WORDS], address: u64, svid: &[u64; 10]) -> Result<u16, Chec
         return Ok(0);
     }
     match sv_publisher_on(m, address, svid) {
-        PublisherMatch::WrongAddress => { Err(CheckAlert::WrongIed) }
-        PublisherMatch::NotRegistered => {
+        Err(PublisherMismatch::WrongAddress) => Err(CheckAlert::WrongIed),
+        Err(PublisherMismatch::NotRegistered) => {
             if flag_on(m, STRICT_MODE) {
                 return Err(CheckAlert::UnknownSvid);
             }
             Ok(0)
         }
-        PublisherMatch::Fits(i) => Ok(publisher_rate_on(m, i)),
+        Ok(i) => Ok(publisher_rate_on(m, i)),
     }
 }
 

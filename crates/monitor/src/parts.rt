@@ -11,7 +11,7 @@ ghost use Rattle.checks.specs.TimeField.{pair_of};
 ghost use Rattle.tables.specs.Order.{all_free};
 
 use checks::goose_publisher::{add_goose_publisher_in, goose_publisher};
-use checks::goose_seq::{GooseNumbers, check_goose_seq_in, retx_anomaly};
+use checks::goose_seq::{StreamNumbers, check_goose_seq_in, retx_anomaly};
 use checks::mms_rule::{add_mms_rule_in, first_rule, rule_rate, rule_read_only};
 use checks::rate::rate_check_in;
 use checks::reservation::{check_cb_in, release_cb_in, reserve_cb_in};
@@ -59,7 +59,7 @@ pub fn check_sv_seq_on(m: &mut [u64; WORDS], svid: &[u64; 10], smp_cnt: u16) -> 
 }
 
 // Checks a frame's numbers.
-pub fn check_goose_seq_on(m: &mut [u64; WORDS], key: &[u64; 10], new: GooseNumbers<u32>) -> bool
+pub fn check_goose_seq_on(m: &mut [u64; WORDS], key: &[u64; 10], new: StreamNumbers<u32>) -> bool
     ensures { record { monitor = monitor_of m.new; answer = result }
         ≡ goose_seq_on (monitor_of m.old) key.now (numbers_of new) }
 {
@@ -178,7 +178,7 @@ pub fn retx_anomaly_on(
     m: &[u64; WORDS],
     key: &[u64; 10],
     schedule: RetxSchedule,
-    new: GooseNumbers<u32>,
+    new: StreamNumbers<u32>,
 ) -> bool
     ensures { result ≡ retx_checked schedule (monitor_of m.now).goose_seq key.now (numbers_of new) }
 {

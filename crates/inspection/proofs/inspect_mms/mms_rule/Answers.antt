@@ -2,7 +2,7 @@
 use Prim.Native.Nat.{ℕ}
 use mathlib.Core.Path.{sym, ap, ◌∙◌}
 use Rattle.records.proofs.Booleans.{answered, cond_yes, cond_no, and_yes, and_no}
-use Rattle.records.specs.declared.search.Found.{Found}
+use Rattle.std.specs.Prelude.{Option}
 use Rattle.monitor.specs.Settings.{strict_mode}
 use Rattle.monitor.specs.Monitor.{monitor_of}
 use Rattle.inspection.specs.InspectMms.{mms_applying, masked, mms_rule}
@@ -27,7 +27,7 @@ returns c = let a = c.args in
     let m = monitor_of a.m.now in
     let q = c.flag_on.ensures in
     c.mms_applying.ensures
-    ∙ ap (λ (x : Found). mms_applying (strict_mode m) m.mms_rules a.write x) c.first_rule_on-found.ensures
+    ∙ ap (λ (x : Option ℕ). mms_applying (strict_mode m) m.mms_rules a.write x) c.first_rule_on-found.ensures
     ∙ sym
     (cond_no _ _ (answered (c.masked.ensures ∙ ap (λ (x : ℕ). masked x a.raw) c.setting_on.ensures) c.if-masked.false)
     ∙ cond_no _ _ (elim c.else-flag_on.branch [
