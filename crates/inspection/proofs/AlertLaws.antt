@@ -5,10 +5,9 @@ use mathlib.Core.List.{List, [], ◌∷◌, ◌++◌, foldl, foldl-append, appen
 use mathlib.Core.Path.{◌≡◌, refl, sym, ap, ◌∙◌}
 use native.Mathlib.Omega.{arith}
 use borrow.Author.Tests.{lt-ltb, le-ltb}
-use lib.ListN.{length, get_or, set, length-append, length-set}
+use lib.ListN.{length, get_or, set, length-set}
 use Rattle.std.proofs.Common.{Option, Some, None, true≢false, take}
 use Rattle.std.proofs.lemmas.List.{take_more}
-use Rattle.records.specs.declared.alert.AlertSeverity.{AlertSeverity}
 use Rattle.records.specs.declared.alert.CodedAlert.{CodedAlert}
 use Rattle.records.specs.declared.result.AlertCounters.{AlertCounters}
 use Rattle.records.specs.declared.result.InspectResult.{InspectResult}
@@ -17,14 +16,14 @@ use Rattle.records.specs.Alert.{severity_number, denies, code_number, no_alert, 
 use Rattle.records.specs.Counter.{saturated, wrapped}
 use Rattle.records.specs.Result.{clean_result, allowed_with, counted, with_alert, pushed}
 use Rattle.records.specs.Verdict.{verdict_of}
-use Rattle.records.proofs.Booleans.{and_both, cond_yes, cond_no, cond_holds}
+use Rattle.records.proofs.Booleans.{cond_yes, cond_no}
 use Rattle.monitor.specs.Monitor.{Monitor}
 use Rattle.monitor.specs.Totals.{alert_counters, with_alerts}
 use Rattle.monitor.proofs.TotalLaws.{alerts_kept}
 use Rattle.inspection.specs.declared.report.CheckAlert.{CheckAlert}
 use Rattle.inspection.specs.declared.report.Noted.{Noted}
 use Rattle.inspection.specs.declared.report.Finding.{Finding}
-use Rattle.inspection.specs.Report.{finding_of, with_allowed, reported_next, alerts_pushed, pushed_on, ended, reported}
+use Rattle.inspection.specs.Report.{reported_next, alerts_pushed, pushed_on, ended, reported}
 use Rattle.inspection.specs.Report.{findings_in, alerts_of, none_found, clean_verdict, noted_of, allowed_octet, alert_noted, with_verdict}
 
 -- ---- the checks' answers

@@ -2,7 +2,7 @@
 // chain of stages on the monitor's words, each of which ends the checking or calls the next; the alerts added at the end.
 ghost use Rattle.std.specs.Prelude.{◌≡◌, true, ◌++◌, length};
 ghost use Rattle.records.specs.Hash.{fnv1a};
-ghost use Rattle.records.specs.Name.{name_of};
+ghost use Rattle.records.specs.Name.{name_of, stated_name};
 ghost use Rattle.checks.specs.GooseSeq.{numbers_of};
 ghost use Rattle.checks.specs.Keys.{plain_key, reservation_key};
 ghost use Rattle.monitor.specs.Monitor.{monitor_of};
@@ -24,7 +24,7 @@ use monitor::totals::{GOOSE_TOTAL_INSPECTED, count_frame_on};
 use records::alert::SOURCE_IEC61850_GOOSE;
 use records::frame::GooseFrame;
 use records::hash::fnv1a_32;
-use records::name::valid_len;
+use records::name::{Name, valid_len};
 use records::result::InspectResult;
 
 // What the checks read of a frame beside its control block's name.
@@ -95,24 +95,24 @@ fn goose_time_field(m: &mut [u64; WORDS], n: GooseNumbers) -> CheckAlerts
 }
 
 // 11: the control block's reservation.
-fn goose_reservation(m: &mut [u64; WORDS], name: &[u8; 64], len: u8, n: GooseNumbers) -> CheckAlerts
+fn goose_reservation<'a>(m: &mut [u64; WORDS], name: Name<'a>, n: GooseNumbers) -> CheckAlerts
     ensures { record { monitor = monitor_of m.new; answer = alerts_of result }
-        ≡ goose_reservation n (reservation_key true (name_of name.now len)) (monitor_of m.old) }
+        ≡ goose_reservation n (reservation_key true (stated_name name.entry)) (monitor_of m.old) }
 {
-    if hijacked(m, true, name, len, n.address) {
+    if hijacked(m, true, name, n.address) {
         return one_alert(Some(CheckAlert::BoundElsewhere));
     }
     goose_time_field(m, n)
 }
 
 // 10: whether publishers exist and none fits.
-fn goose_unknown(m: &[u64; WORDS], address: u64, name: &[u8; 64], len: u8) -> bool
-    ensures { result ≡ goose_unknown (monitor_of m.now) address (plain_key (name_of name.now len)) }
+fn goose_unknown<'a>(m: &[u64; WORDS], address: u64, name: Name<'a>) -> bool
+    ensures { result ≡ goose_unknown (monitor_of m.now) address (plain_key (stated_name name.entry)) }
 {
     if goose_publisher_count_on(m) == 0 {
         return false;
     }
-    goose_publisher_on(m, address, &plain_key(*name, len)).is_none()
+    goose_publisher_on(m, address, &plain_key(name)).is_none()
 }
 
 // 9: whether a frame is a test frame while blocked.
@@ -126,22 +126,17 @@ fn goose_blocked(m: &[u64; WORDS], test: bool) -> bool
 }
 
 // The checks of a GOOSE frame, by the octets of its control block's name: keys are made of them only where there are publishers or reservations.
-pub fn goose_checks_on(
-    m: &mut [u64; WORDS],
-    name: &[u8; 64],
-    len: u8,
-    n: GooseNumbers,
-) -> CheckAlerts
+pub fn goose_checks_on<'a>(m: &mut [u64; WORDS], name: Name<'a>, n: GooseNumbers) -> CheckAlerts
     ensures { record { monitor = monitor_of m.new; answer = alerts_of result }
-        ≡ goose_test (monitor_of m.old) (goose_read_by (name_of name.now len) n) }
+        ≡ goose_test (monitor_of m.old) (goose_read_by (stated_name name.entry) n) }
 {
     if goose_blocked(m, n.test) {
         return one_alert(Some(CheckAlert::TestBlocked));
     }
-    if goose_unknown(m, n.address, name, len) {
+    if goose_unknown(m, n.address, name) {
         return one_alert(Some(CheckAlert::UnknownPublisher));
     }
-    goose_reservation(m, name, len, n)
+    goose_reservation(m, name, n)
 }
 
 // The hash of a frame's control block.
@@ -170,7 +165,14 @@ fn check_goose_on(m: &mut [u64; WORDS], frame: GooseFrame) -> CheckAlerts
         fraction: frame.t_fraction_of_second,
     };
     count_frame_on(m, GOOSE_TOTAL_INSPECTED);
-    goose_checks_on(m, &frame.go_cb_ref, frame.go_cb_ref_len, n)
+    goose_checks_on(
+        m,
+        Name {
+            octets: &frame.go_cb_ref,
+            len: frame.go_cb_ref_len,
+        },
+        n,
+    )
 }
 
 // Inspects a GOOSE frame.

@@ -18,6 +18,7 @@ use monitor::settings::{MMS_READ_ONLY, MMS_SERVICE_MASK, STRICT_MODE, flag_on, s
 use monitor::totals::{MMS_TOTAL_INSPECTED, count_frame_on};
 use records::alert::SOURCE_IEC61850_MMS;
 use records::frame::MmsFrame;
+use records::name::Name;
 use records::result::InspectResult;
 
 // What the checks read of a frame beside the name that a control action states.
@@ -103,7 +104,13 @@ fn releases(service: u8) -> bool
 fn control_key(domain: &[u8; 64], n: MmsNumbers) -> [u64; 10]
     ensures { result ≡ control_key (record { domain = domain.entry.now; numbers = n }) }
 {
-    reservation_key(n.control_block_is_goose, *domain, n.domain_len)
+    reservation_key(
+        n.control_block_is_goose,
+        Name {
+            octets: domain,
+            len: n.domain_len,
+        },
+    )
 }
 
 // The control action of a frame, by the service and not its raw number: SelectControl 11 reserves the control block that it names.

@@ -2,7 +2,7 @@
 // a31d888527 (Apache-2.0) and changed: a chain of stages on the monitor's words, each of which ends the checking or calls the next; the alerts
 // added at the end.
 ghost use Rattle.std.specs.Prelude.{◌≡◌, false, cond, [], ◌++◌};
-ghost use Rattle.records.specs.Name.{name_of};
+ghost use Rattle.records.specs.Name.{stated_name};
 ghost use Rattle.checks.specs.Keys.{reservation_key};
 ghost use Rattle.monitor.specs.Monitor.{monitor_of};
 ghost use Rattle.monitor.specs.Parts.{cb_on};
@@ -25,6 +25,7 @@ use monitor::totals::{SV_TOTAL_INSPECTED, count_frame_on};
 use records::alert::SOURCE_IEC61850_SV;
 use records::error::VsError;
 use records::frame::SvFrame;
+use records::name::Name;
 use records::result::InspectResult;
 use sv_frame::sv::parse_sv;
 
@@ -103,29 +104,28 @@ fn sv_time_field(m: &mut [u64; WORDS], svid: &[u64; 10], n: SvNumbers, rate: u16
 
 // The use of a data set by an address, and whether it is bound to another. Most frames name none: no key is made of it.
 #[tactic(auto, using(crate::proofs::HijackLaws::unnamed_passed))]
-fn dataset_hijacked(m: &mut [u64; WORDS], dataset: &[u8; 64], len: u8, address: u64) -> bool
+fn dataset_hijacked<'a>(m: &mut [u64; WORDS], dataset: Name<'a>, address: u64) -> bool
     ensures { record { monitor = monitor_of m.new; answer = result }
-        ≡ cb_on (monitor_of m.old) (reservation_key false (name_of dataset.now len)) address }
+        ≡ cb_on (monitor_of m.old) (reservation_key false (stated_name dataset.entry)) address }
 {
-    if len == 0 {
+    if dataset.len == 0 {
         return false;
     }
-    hijacked(m, false, dataset, len, address)
+    hijacked(m, false, dataset, address)
 }
 
 // 16: the data set's reservation.
-fn sv_reservation(
+fn sv_reservation<'a>(
     m: &mut [u64; WORDS],
     svid: &[u64; 10],
-    dataset: &[u8; 64],
-    dataset_len: u8,
+    dataset: Name<'a>,
     n: SvNumbers,
     rate: u16,
 ) -> CheckAlerts
     ensures { record { monitor = monitor_of m.new; answer = alerts_of result }
-        ≡ sv_reservation (sv_read_by svid.now (name_of dataset.now dataset_len) n) rate (monitor_of m.old) }
+        ≡ sv_reservation (sv_read_by svid.now (stated_name dataset.entry) n) rate (monitor_of m.old) }
 {
-    if dataset_hijacked(m, dataset, dataset_len, n.address) {
+    if dataset_hijacked(m, dataset, n.address) {
         return one_alert(Some(CheckAlert::BoundElsewhere));
     }
     sv_time_field(m, svid, n, rate)
@@ -152,19 +152,18 @@ fn sv_rule(m: &[u64; WORDS], address: u64, svid: &[u64; 10]) -> Result<u16, Chec
 }
 
 // The checks of an SV frame, by the key of its svID and the octets of its data set's name.
-pub fn sv_checks_on(
+pub fn sv_checks_on<'a>(
     m: &mut [u64; WORDS],
     svid: &[u64; 10],
-    dataset: &[u8; 64],
-    dataset_len: u8,
+    dataset: Name<'a>,
     n: SvNumbers,
 ) -> CheckAlerts
     ensures { record { monitor = monitor_of m.new; answer = alerts_of result }
-        ≡ sv_binding (monitor_of m.old) (sv_read_by svid.now (name_of dataset.now dataset_len) n) }
+        ≡ sv_binding (monitor_of m.old) (sv_read_by svid.now (stated_name dataset.entry) n) }
 {
     match sv_rule(m, n.address, svid) {
         Err(alert) => one_alert(Some(alert)),
-        Ok(rate) => sv_reservation(m, svid, dataset, dataset_len, n, rate),
+        Ok(rate) => sv_reservation(m, svid, dataset, n, rate),
     }
 }
 
@@ -173,7 +172,6 @@ pub fn check_sv_on(m: &mut [u64; WORDS], frame: SvFrame) -> CheckAlerts
     ensures { record { monitor = monitor_of m.new; answer = alerts_of result } ≡ checked_sv (monitor_of m.old) frame }
 {
     let src_mac = frame.src_mac;
-    let name = frame.svid;
     let n = SvNumbers {
         address: address_of(src_mac),
         seconds: frame.t_seconds_since_epoch,
@@ -184,9 +182,14 @@ pub fn check_sv_on(m: &mut [u64; WORDS], frame: SvFrame) -> CheckAlerts
     count_frame_on(m, SV_TOTAL_INSPECTED);
     sv_checks_on(
         m,
-        &plain_key(name, frame.svid_len),
-        &frame.dataset_ref,
-        frame.dataset_ref_len,
+        &plain_key(Name {
+            octets: &frame.svid,
+            len: frame.svid_len,
+        }),
+        Name {
+            octets: &frame.dataset_ref,
+            len: frame.dataset_ref_len,
+        },
         n,
     )
 }

@@ -3,7 +3,7 @@ use Prim.Native.Nat.{ℕ}
 use mathlib.Core.List.{List}
 use mathlib.Core.Path.{ap, ◌∙◌}
 use Rattle.records.proofs.Booleans.{answered}
-use Rattle.records.specs.Name.{name_of}
+use Rattle.records.specs.Name.{stated_name}
 use Rattle.checks.specs.Keys.{reservation_key}
 use Rattle.monitor.specs.Monitor.{monitor_of}
 use Rattle.monitor.specs.Parts.{cb_on}
@@ -12,7 +12,7 @@ use Rattle.inspection.proofs.hijack.hijacked.Goals as goal
 
 pub returns-then-no_reservations_on : goal.returns-then-no_reservations_on
 returns-then-no_reservations_on c = let a = c.args in
-    unreserved_passed (monitor_of a.m.now) (reservation_key a.is_goose (name_of a.name.now a.len)) a.address
+    unreserved_passed (monitor_of a.m.now) (reservation_key a.is_goose (stated_name a.name)) a.address
     (answered c.no_reservations_on.ensures c.if-no_reservations_on.true)
 
 pub returns : goal.returns

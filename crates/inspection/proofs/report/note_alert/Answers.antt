@@ -1,8 +1,6 @@
 -- `note_alert` meets its contract.
-use mathlib.Core.Path.{◌≡◌, ap, ◌∙◌}
-use Rattle.records.specs.Alert.{code_number, severity_number}
-use Rattle.inspection.specs.declared.report.Finding.{Finding}
-use Rattle.inspection.specs.Report.{finding_of, alert_noted}
+use mathlib.Core.Path.{ap, ◌∙◌}
+use Rattle.inspection.specs.Report.{alert_noted}
 use Rattle.inspection.proofs.AlertLaws.{alert_put, alert_left}
 use Rattle.inspection.proofs.report.note_alert.Goals as goal
 
