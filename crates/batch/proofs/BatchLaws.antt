@@ -1,5 +1,5 @@
 -- Laws of many SV frames in one call: how far the records reach, and one more frame.
-use Prim.Native.Nat.{ℕ, zero, suc, ◌+◌, ◌-◌, ◌*◌, ◌≤◌, ◌<◌}
+use Prim.Native.Nat.{ℕ, zero, suc, ◌+◌, ◌-◌, ◌*◌, ◌≤◌}
 use mathlib.Core.List.{List}
 use mathlib.Core.Path.{◌≡◌, refl, ap, ◌∙◌}
 use native.Mathlib.Numerals.{add-one}
@@ -13,13 +13,7 @@ use Rattle.monitor.specs.Parts.{After}
 use Rattle.inspection.specs.InspectSv.{inspect_sv}
 use Rattle.inspection.specs.Report.{with_verdict}
 use Rattle.lent.specs.Sv.{sv_frame_of}
-use Rattle.batch.specs.Batch.{batch_count, frame_at, verdict_put, sv_after, sv_verdicts}
-
--- the record of a frame that is inspected lies within the octets
-module _ (frames verdicts : ℕ) {i n : ℕ} (e : n ≡ batch_count frames verdicts) (h : i < n) where
-  pub record_fits : i * 160 + 160 ≤ frames
-  unfolding batch_count
-  record_fits = omega arith
+use Rattle.batch.specs.Batch.{frame_at, verdict_put, sv_after, sv_verdicts}
 
 -- past the last frame, all of them are inspected
 pub all_passed : {i n count : ℕ} → i ≤ n → n ≤ i → n ≡ count → i ≡ count

@@ -3,6 +3,7 @@ use crate::frame_points::good_frame;
 use crate::monitor_points::{goose_frame, sv_frame, write_part, write_verdict};
 use crate::write_text;
 use entries::iec61850_monitor::Iec61850Monitor;
+use records::frame::{GooseFrame, SvFrame};
 use records::schedule::RetxSchedule;
 use std::io::Stdout;
 
@@ -14,15 +15,16 @@ fn hear_sv(
     seconds: u32,
     time_us: u64,
 ) -> Iec61850Monitor {
-    let mut f = sv_frame(count);
-    f.t_seconds_since_epoch = seconds;
-    f.timestamp_us = time_us;
+    let f = SvFrame {
+        t_seconds_since_epoch: seconds,
+        timestamp_us: time_us,
+        ..sv_frame(count)
+    };
     let inspected = m.inspect_sv(f);
-    write_part(stdout, b"SV count ", count as u64);
-    write_part(stdout, b" clock ", seconds as u64);
+    write_part(stdout, b"SV count ", u64::from(count));
+    write_part(stdout, b" clock ", u64::from(seconds));
     write_part(stdout, b" heard at ", time_us);
-    let result = inspected.result;
-    write_verdict(stdout, result);
+    write_verdict(stdout, inspected.result);
     inspected.monitor
 }
 
@@ -34,14 +36,15 @@ fn hear_goose(
     seconds: u32,
     time_us: u64,
 ) -> Iec61850Monitor {
-    let mut f = goose_frame(1, sq_num, seconds);
-    f.timestamp_us = time_us;
+    let f = GooseFrame {
+        timestamp_us: time_us,
+        ..goose_frame(1, sq_num, seconds)
+    };
     let inspected = m.inspect_goose(f);
-    write_part(stdout, b"GOOSE sqNum ", sq_num as u64);
-    write_part(stdout, b" clock ", seconds as u64);
+    write_part(stdout, b"GOOSE sqNum ", u64::from(sq_num));
+    write_part(stdout, b" clock ", u64::from(seconds));
     write_part(stdout, b" heard at ", time_us);
-    let result = inspected.result;
-    write_verdict(stdout, result);
+    write_verdict(stdout, inspected.result);
     inspected.monitor
 }
 
@@ -51,9 +54,7 @@ fn hear_raw(stdout: Stdout, m: Iec61850Monitor, time_us: u64) -> Iec61850Monitor
     let inspected = m.inspect_raw_sv(&octets, time_us);
     write_text(stdout, b"raw frame");
     write_part(stdout, b" heard at ", time_us);
-    let raw = inspected.raw;
-    let result = raw.result;
-    write_verdict(stdout, result);
+    write_verdict(stdout, inspected.raw.result);
     inspected.monitor
 }
 

@@ -19,19 +19,16 @@ fn write_name(stdout: Stdout, name: [u8; 64], len: u8) {
 
 // The fields of a frame, on lines.
 fn write_fields(stdout: Stdout, f: SvFrame) {
-    let source = f.src_mac;
     write_text(stdout, b"  source");
-    write_octets(stdout, &source);
-    let svid = f.svid;
+    write_octets(stdout, &f.src_mac);
     write_text(stdout, b"\n  svID");
-    write_name(stdout, svid, f.svid_len);
-    let dataset = f.dataset_ref;
+    write_name(stdout, f.svid, f.svid_len);
     write_text(stdout, b"\n  data set");
-    write_name(stdout, dataset, f.dataset_ref_len);
-    write_number(stdout, b"\n  count ", f.smp_cnt as u64);
-    write_number(stdout, b"  rate ", f.smp_rate as u64);
-    write_number(stdout, b"  seconds ", f.t_seconds_since_epoch as u64);
-    write_number(stdout, b"  fraction ", f.t_fraction_of_second as u64);
+    write_name(stdout, f.dataset_ref, f.dataset_ref_len);
+    write_number(stdout, b"\n  count ", u64::from(f.smp_cnt));
+    write_number(stdout, b"  rate ", u64::from(f.smp_rate));
+    write_number(stdout, b"  seconds ", u64::from(f.t_seconds_since_epoch));
+    write_number(stdout, b"  fraction ", u64::from(f.t_fraction_of_second));
     write_number(stdout, b"  time ", f.timestamp_us);
 }
 
@@ -46,7 +43,7 @@ fn write_frame(stdout: Stdout, label: &[u8], octets: &[u8]) {
             let frame = read.frame;
             write_fields(stdout, frame);
         }
-        Parsed::Error(e) => write_number(stdout, b": error ", e.number() as u64),
+        Parsed::Error(e) => write_number(stdout, b": error ", u64::from(e.number())),
     }
 }
 
@@ -151,10 +148,8 @@ fn write_cut(stdout: Stdout, octets: &[u8], n: usize) {
 // The frame cut at every length.
 fn cut_frames(stdout: Stdout) {
     let good = good_frame();
-    let mut n: usize = 0;
-    while n < 39 {
+    for n in 0..good.len() {
         write_cut(stdout, &good, n);
-        n += 1;
     }
 }
 

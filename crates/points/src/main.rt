@@ -39,10 +39,8 @@ fn write_octet(stdout: Stdout, octet: u8) {
 }
 
 fn write_octets(stdout: Stdout, octets: &[u8]) {
-    let mut i = 0;
-    while i < octets.len() {
-        write_octet(stdout, octets[i]);
-        i += 1;
+    for octet in octets {
+        write_octet(stdout, *octet);
     }
 }
 
@@ -55,35 +53,43 @@ fn write_hash(stdout: Stdout, octets: &[u8]) {
     write_text(stdout, b"\n");
 }
 
-fn flag(b: bool) -> u64 {
-    if b { 1 } else { 0 }
-}
-
 // The schedule of 4000 to 1,000,000 at 25 percent.
 fn schedule_points(stdout: Stdout) {
     let s = RetxSchedule::default_8_1();
-    write_number(stdout, b"interval 7: ", s.expected_interval_us(7) as u64);
-    write_number(stdout, b"interval 8: ", s.expected_interval_us(8) as u64);
-    write_number(stdout, b"interval 32: ", s.expected_interval_us(32) as u64);
+    write_number(
+        stdout,
+        b"interval 7: ",
+        u64::from(s.expected_interval_us(7)),
+    );
+    write_number(
+        stdout,
+        b"interval 8: ",
+        u64::from(s.expected_interval_us(8)),
+    );
+    write_number(
+        stdout,
+        b"interval 32: ",
+        u64::from(s.expected_interval_us(32)),
+    );
     write_number(
         stdout,
         b"tolerance 2999: ",
-        flag(s.within_tolerance(2999, 4000)),
+        u64::from(s.within_tolerance(2999, 4000)),
     );
     write_number(
         stdout,
         b"tolerance 3000: ",
-        flag(s.within_tolerance(3000, 4000)),
+        u64::from(s.within_tolerance(3000, 4000)),
     );
     write_number(
         stdout,
         b"tolerance 5000: ",
-        flag(s.within_tolerance(5000, 4000)),
+        u64::from(s.within_tolerance(5000, 4000)),
     );
     write_number(
         stdout,
         b"tolerance 5001: ",
-        flag(s.within_tolerance(5001, 4000)),
+        u64::from(s.within_tolerance(5001, 4000)),
     );
 }
 
@@ -95,9 +101,9 @@ fn bucket_points(stdout: Stdout) {
         last_refill_us: 0,
     };
     let early = b.next_call(99_999);
-    write_number(stdout, b"bucket 99999: ", flag(early.allowed));
+    write_number(stdout, b"bucket 99999: ", u64::from(early.allowed));
     let due = b.next_call(100_000);
-    write_number(stdout, b"bucket 100000: ", flag(due.allowed));
+    write_number(stdout, b"bucket 100000: ", u64::from(due.allowed));
 }
 
 // The first vectors of the FNV reference source (test_fnv.c).

@@ -7,6 +7,7 @@ use entries::iec61850_monitor::Iec61850Monitor;
 use entries::sv_seq::{SvChecked, SvSeqTable, check_sv_seq};
 use records::alert::CodedAlert;
 use records::frame::{GooseFrame, MmsFrame, SvFrame};
+use records::name::padded_octets;
 use records::result::InspectResult;
 use records::service::MmsServiceType;
 use std::io::Stdout;
@@ -20,20 +21,13 @@ pub fn write_part(stdout: Stdout, label: &[u8], n: u64) {
 
 // The code of an alert.
 fn write_code(stdout: Stdout, alert: CodedAlert) {
-    let code = alert.code;
-    write_part(stdout, b" ", code.code() as u64);
+    write_part(stdout, b" ", u64::from(alert.code.code()));
 }
 
 // The codes of the alerts, in order.
 fn write_codes(stdout: Stdout, res: InspectResult) {
-    let n = res.alert_count as usize;
-    let mut i: usize = 0;
-    while i < 4 {
-        if i < n {
-            let alert = res.alerts[i];
-            write_code(stdout, alert);
-        }
-        i += 1;
+    for alert in res.alerts.iter().take(res.alert_count as usize) {
+        write_code(stdout, *alert);
     }
 }
 
@@ -50,51 +44,44 @@ pub fn write_verdict(stdout: Stdout, res: InspectResult) {
 
 // A frame of the stream M1.
 pub fn sv_frame(count: u16) -> SvFrame {
-    let mut f = SvFrame::default();
-    f.svid[0] = b'M';
-    f.svid[1] = b'1';
-    f.svid_len = 2;
-    f.smp_cnt = count;
-    f
+    SvFrame {
+        svid: padded_octets(b"M1"),
+        svid_len: 2,
+        smp_cnt: count,
+        ..SvFrame::default()
+    }
 }
 
 // The monitor after a count of the stream.
 fn inspect_count(stdout: Stdout, m: Iec61850Monitor, label: &[u8], count: u16) -> Iec61850Monitor {
     let inspected = m.inspect_sv(sv_frame(count));
-    write_part(stdout, label, count as u64);
-    let result = inspected.result;
-    write_verdict(stdout, result);
+    write_part(stdout, label, u64::from(count));
+    write_verdict(stdout, inspected.result);
     inspected.monitor
 }
 
 // The streams after a count of the stream, and its outcome.
 fn check_count(table: SvSeqTable, count: u16) -> SvChecked {
     let f = sv_frame(count);
-    let svid = f.svid;
-    check_sv_seq(table, svid, f.svid_len, f.smp_cnt)
+    check_sv_seq(table, f.svid, f.svid_len, f.smp_cnt)
 }
 
 fn gap_of(outcome: SvSeqOutcome) -> u16 {
     match outcome {
-        SvSeqOutcome::FirstSeen => 0,
-        SvSeqOutcome::Replay => 0,
-        SvSeqOutcome::ForwardGap(gap) => gap,
-        SvSeqOutcome::CycleWrap => 0,
-        SvSeqOutcome::SuspiciousSmpGap(gap) => gap,
+        SvSeqOutcome::ForwardGap(gap) | SvSeqOutcome::SuspiciousSmpGap(gap) => gap,
+        _ => 0,
     }
 }
 
 // The outcome of a count after another, on a line, unless it is the one of this number and gap.
 fn expect_outcome(stdout: Stdout, first: u16, second: u16, number: u8, gap: u16) {
     let once = check_count(SvSeqTable::new(), first);
-    let table = once.table;
-    let twice = check_count(table, second);
-    let outcome = twice.outcome;
+    let outcome = check_count(once.table, second).outcome;
     if outcome.number() == number && gap_of(outcome) == gap {
         return;
     }
-    write_part(stdout, b"outcome ", outcome.number() as u64);
-    write_number(stdout, b" gap ", gap_of(outcome) as u64);
+    write_part(stdout, b"outcome ", u64::from(outcome.number()));
+    write_number(stdout, b" gap ", u64::from(gap_of(outcome)));
 }
 
 // One count and then another, whose outcome has this number and gap, on a new monitor.
@@ -126,7 +113,7 @@ fn inspect_raw(
     let result = raw.result;
     match answer {
         Parsed::Frame => write_verdict(stdout, result),
-        Parsed::Error(e) => write_number(stdout, b": error ", e.number() as u64),
+        Parsed::Error(e) => write_number(stdout, b": error ", u64::from(e.number())),
     }
     inspected.monitor
 }
@@ -150,13 +137,14 @@ fn raw_points(stdout: Stdout) {
 
 // A frame of the control block g.
 pub fn goose_frame(st_num: u32, sq_num: u32, seconds: u32) -> GooseFrame {
-    let mut f = GooseFrame::default();
-    f.go_cb_ref[0] = b'g';
-    f.go_cb_ref_len = 1;
-    f.st_num = st_num;
-    f.sq_num = sq_num;
-    f.t_seconds_since_epoch = seconds;
-    f
+    GooseFrame {
+        go_cb_ref: padded_octets(b"g"),
+        go_cb_ref_len: 1,
+        st_num,
+        sq_num,
+        t_seconds_since_epoch: seconds,
+        ..GooseFrame::default()
+    }
 }
 
 // The monitor after a frame of the control block.
@@ -168,11 +156,10 @@ fn inspect_state(
     seconds: u32,
 ) -> Iec61850Monitor {
     let inspected = m.inspect_goose(goose_frame(st_num, sq_num, seconds));
-    write_part(stdout, b"stNum ", st_num as u64);
-    write_part(stdout, b" sqNum ", sq_num as u64);
-    write_part(stdout, b" clock ", seconds as u64);
-    let result = inspected.result;
-    write_verdict(stdout, result);
+    write_part(stdout, b"stNum ", u64::from(st_num));
+    write_part(stdout, b" sqNum ", u64::from(sq_num));
+    write_part(stdout, b" clock ", u64::from(seconds));
+    write_verdict(stdout, inspected.result);
     inspected.monitor
 }
 
@@ -187,18 +174,12 @@ fn state_points(stdout: Stdout) {
 
 // A request of a raw number about a name of one octet.
 fn mms_frame(raw: u8, name: u8) -> MmsFrame {
-    let mut domain = [0u8; 64];
-    domain[0] = name;
-    let service = MmsServiceType::from_u8(raw);
     MmsFrame {
-        service_type: service,
+        service_type: MmsServiceType::from_u8(raw),
         raw_service_type: raw,
-        domain: domain,
+        domain: padded_octets(&[name]),
         domain_len: 1,
-        invoke_id: 0,
-        timestamp_us: 0,
-        client_id: 0,
-        control_block_is_goose: true,
+        ..MmsFrame::default()
     }
 }
 
@@ -206,8 +187,7 @@ fn mms_frame(raw: u8, name: u8) -> MmsFrame {
 fn inspect_write(stdout: Stdout, m: Iec61850Monitor, label: &[u8]) -> Iec61850Monitor {
     let inspected = m.inspect_mms(mms_frame(2, 1));
     write_text(stdout, label);
-    let result = inspected.result;
-    write_verdict(stdout, result);
+    write_verdict(stdout, inspected.result);
     inspected.monitor
 }
 
@@ -221,19 +201,16 @@ fn write_points(stdout: Stdout) {
 // The monitor after SelectControl of a name.
 fn inspect_select(stdout: Stdout, m: Iec61850Monitor, name: u8) -> Iec61850Monitor {
     let inspected = m.inspect_mms(mms_frame(11, name));
-    write_part(stdout, b"SelectControl of name ", name as u64);
-    let result = inspected.result;
-    write_verdict(stdout, result);
+    write_part(stdout, b"SelectControl of name ", u64::from(name));
+    write_verdict(stdout, inspected.result);
     inspected.monitor
 }
 
 // Seventeen names: the table has room for sixteen.
 fn select_points(stdout: Stdout) {
     let mut m = Iec61850Monitor::new();
-    let mut name: u8 = 1;
-    while name < 18 {
+    for name in 1..18 {
         m = inspect_select(stdout, m, name);
-        name += 1;
     }
 }
 
