@@ -3,8 +3,8 @@ ghost use Rattle.std.specs.Prelude.{◌≤◌, length};
 ghost use Rattle.text.specs.Counts.{IsPrefixLen};
 
 use crate::refusal::put_error;
+use records::error::VsError;
 use records::frame::SvFrame;
-use sv_frame::sv::Parsed;
 use text::put::{append, put_hex, put_number};
 
 // Puts a name's stated length and all its octets.
@@ -51,12 +51,12 @@ fn put_frame(line: &mut [u8], at: usize, frame: SvFrame) -> usize
 }
 
 // Puts what was read of a raw frame, or why nothing was.
-pub fn put_parsed(line: &mut [u8], at: usize, answer: Parsed, frame: SvFrame) -> usize
+pub fn put_parsed(line: &mut [u8], at: usize, parsed: Result<SvFrame, VsError>) -> usize
     requires { at ≤ length line.old }
     ensures { IsPrefixLen result line.new }
 {
-    match answer {
-        Parsed::Frame => put_frame(line, at, frame),
-        Parsed::Error(error) => put_error(line, at, error.number()),
+    match parsed {
+        Ok(frame) => put_frame(line, at, frame),
+        Err(error) => put_error(line, at, error.number()),
     }
 }

@@ -62,10 +62,7 @@ pub fn put_parsing(call: &[u8], line: &mut [u8], at: usize) -> usize
     requires { at ≤ length line.old }
     ensures { IsPrefixLen result line.new }
 {
-    let parsed = parse_sv(rest_at(call, 9), u64_at(call, 1));
-    let answer = parsed.answer;
-    let frame = parsed.frame;
-    put_parsed(line, at, answer, frame)
+    put_parsed(line, at, parse_sv(rest_at(call, 9), u64_at(call, 1)))
 }
 
 // Puts a bucket after a call, and first whether the call was allowed.

@@ -2,16 +2,15 @@
 use mathlib.Core.List.{List, [], ◌∷◌, ◌++◌, foldl-append, map}
 use mathlib.Core.Path.{◌≡◌, refl, sym, ap, ◌∙◌}
 use Rattle.records.specs.declared.frame.SvFrame.{SvFrame}
-use Rattle.records.specs.Legal.{LegalSv}
-use Rattle.sv_frame.specs.declared.sv.Parsed.{Parsed}
-use Rattle.sv_frame.specs.declared.sv.Parsed.TheVariants.{Frame, Error}
+use Rattle.std.proofs.Common.{Result, Ok, Err}
+use Rattle.records.specs.declared.error.VsError.{VsError}
 use Rattle.sv_frame.specs.Sv.{sv_frame}
-use Rattle.sv_frame.proofs.SvLegal.{sv_legal}
+use Rattle.sv_frame.proofs.SvLegal.{IfLegal, sv_legal}
 use Rattle.monitor.specs.Monitor.{Monitor}
 use Rattle.inspection.specs.Calls.{configured_monitor}
-use Rattle.inspection.specs.InspectSv.{raw_inspected, inspect_raw_sv}
+use Rattle.inspection.specs.InspectSv.{parsed_inspected, inspect_raw_sv}
 use Rattle.demand3.specs.Demand3.{Inspection, goose, sv, Legal, inspect, after_history, Answer, answer_of, answers, SameAnswers, Distinguished}
-use Rattle.demand3.specs.Demand3Mixed.{Arrival, decoded, raw, LegalArrivals, if_read, inspections_of, inspections, after_arrival, after_arrivals}
+use Rattle.demand3.specs.Demand3Mixed.{Arrival, decoded, raw, LegalArrivals, parsed_inspections, inspections_of, inspections, after_arrival, after_arrivals}
 use Rattle.demand3.specs.Demand3Mixed.{if_answered, answers_to, arrival_answers, SameArrivalAnswers, MixedDistinguished, Demand3Mixed}
 use Rattle.demand3.proofs.Demand3Holds.{demand_3}
 use Rattle.demand3.proofs.LegalLaws.{legal_append}
@@ -21,20 +20,22 @@ use Rattle.demand3.proofs.LegalLaws.{legal_append}
 arrival_is : (m : Monitor) (x : Arrival) → after_arrival m x ≡ after_history m (inspections_of x)
 unfolding inspect_raw_sv
 arrival_is m (decoded x) = refl
-arrival_is m (raw octets time) = go (sv_frame octets time).answer (sv_frame octets time).frame
+arrival_is m (raw octets time) = go (sv_frame octets time)
   where
-    go : (p : Parsed) (f : SvFrame) → (raw_inspected m p f).monitor ≡ after_history m (if_read p f)
-    go Frame f = refl
-    go (Error e) f = refl
+    go : (p : Result SvFrame VsError) → (parsed_inspected m p).monitor ≡ after_history m (parsed_inspections p)
+    go (Ok f) = refl
+    go (Err e) = refl
 
 answers_is : (m : Monitor) (x : Arrival) → answers_to m x ≡ answers m (inspections_of x)
 unfolding inspect_raw_sv
 answers_is m (decoded x) = refl
-answers_is m (raw octets time) = go (sv_frame octets time).answer (sv_frame octets time).frame
+answers_is m (raw octets time) = go (sv_frame octets time)
   where
-    go : (p : Parsed) (f : SvFrame) → if_answered (raw_inspected m p f).answer.answer (answer_of (raw_inspected m p f).answer.result) ≡ answers m (if_read p f)
-    go Frame f = refl
-    go (Error e) f = refl
+    go :
+        (p : Result SvFrame VsError)
+        → if_answered (parsed_inspected m p).answer.answer (answer_of (parsed_inspected m p).answer.result) ≡ answers m (parsed_inspections p)
+    go (Ok f) = refl
+    go (Err e) = refl
 
 -- ---- lists of them
 
@@ -61,11 +62,11 @@ legal_inspections [] g = tt
 legal_inspections (decoded x ∷ a) g = legal_append (x ∷ []) (inspections a) g.0 (legal_inspections a g.1)
 legal_inspections (raw octets time ∷ a) g =
     legal_append (inspections_of (raw octets time)) (inspections a)
-    (go (sv_frame octets time).answer (sv_frame octets time).frame (sv_legal octets time g.0.0 g.0.1)) (legal_inspections a g.1)
+    (go (sv_frame octets time) (sv_legal octets time g.0.0 g.0.1)) (legal_inspections a g.1)
   where
-    go : (p : Parsed) (f : SvFrame) → LegalSv f → Legal (if_read p f)
-    go Frame f l = (l, tt)
-    go (Error e) f l = tt
+    go : (p : Result SvFrame VsError) → IfLegal p → Legal (parsed_inspections p)
+    go (Ok f) l = (l, tt)
+    go (Err e) l = tt
 
 -- decoded frames are arrivals too
 arrivals : List Inspection → List Arrival

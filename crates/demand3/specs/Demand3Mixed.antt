@@ -1,11 +1,9 @@
 -- Demand 3 for histories that mix raw and decoded frames (01: a raw frame counts as the frame read from it, an unreadable one is no call).
-use Rattle.std.specs.Prelude.{ℕ, ◌≤◌, ◌<◌, ◌^◌, Bool, ◌≢◌, ◌↔◌, ◌≡◌, length}
+use Rattle.std.specs.Prelude.{ℕ, ◌≤◌, ◌<◌, ◌^◌, Bool, ◌≢◌, ◌↔◌, ◌≡◌, length, Result, Ok, Err}
 use mathlib.Core.List.{List, [], ◌∷◌, ◌++◌, foldl}
+use Rattle.records.specs.declared.error.VsError.{VsError}
 use Rattle.records.specs.declared.frame.SvFrame.{SvFrame}
 use Rattle.records.specs.Legal.{Octets}
-use Rattle.sv_frame.specs.declared.sv.Parsed.{Parsed}
-use Rattle.sv_frame.specs.declared.sv.Parsed.TheVariants.{Frame, Error}
-use Rattle.sv_frame.specs.declared.sv.ParsedSv.{ParsedSv}
 use Rattle.sv_frame.specs.Sv.{sv_frame}
 use Rattle.monitor.specs.Monitor.{Monitor}
 use Rattle.inspection.specs.Calls.{Setting, configured_monitor}
@@ -24,12 +22,9 @@ LegalArrivals (decoded x ∷ a) = Legal (x ∷ []) × LegalArrivals a
 LegalArrivals (raw octets time ∷ a) = (Octets octets × (time < 2 ^ 64)) × LegalArrivals a
 
 -- the inspections that arrivals are: an unreadable frame is none
-abbrev pub if_read : Parsed → SvFrame → List Inspection
-if_read Frame f = sv f ∷ []
-if_read (Error e) f = []
-
-abbrev pub parsed_inspections : ParsedSv → List Inspection
-parsed_inspections p = if_read p.answer p.frame
+abbrev pub parsed_inspections : Result SvFrame VsError → List Inspection
+parsed_inspections (Ok f) = sv f ∷ []
+parsed_inspections (Err e) = []
 
 abbrev pub inspections_of : Arrival → List Inspection
 inspections_of (decoded x) = x ∷ []
@@ -48,9 +43,9 @@ abbrev pub after_arrivals : Monitor → List Arrival → Monitor
 after_arrivals m a = foldl after_arrival m a
 
 -- the answers to arrivals: none to an unreadable frame
-abbrev pub if_answered : Parsed → Answer → List Answer
-if_answered Frame answer = answer ∷ []
-if_answered (Error e) answer = []
+abbrev pub if_answered : Result Unit VsError → Answer → List Answer
+if_answered (Ok x) answer = answer ∷ []
+if_answered (Err e) answer = []
 
 abbrev pub answers_to : Monitor → Arrival → List Answer
 answers_to m (decoded x) = answer_of (inspect m x).answer ∷ []

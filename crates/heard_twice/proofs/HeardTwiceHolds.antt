@@ -9,8 +9,8 @@ use Rattle.records.specs.declared.frame.SvFrame.{SvFrame}
 use Rattle.records.specs.Alert.{source_goose, source_sv}
 use Rattle.records.specs.Result.{clean_result}
 use Rattle.tables.proofs.KeyMaps.{key_words}
-use Rattle.sv_frame.specs.declared.sv.ParsedSv.{ParsedSv}
-use Rattle.sv_frame.specs.Sv.{refused_sv}
+use Rattle.std.proofs.Common.{Result}
+use Rattle.records.specs.declared.error.VsError.{VsError}
 use Rattle.monitor.specs.Monitor.{Monitor, Sized, monitor_of}
 use Rattle.monitor.specs.Reset.{new_monitor}
 use Rattle.monitor.specs.Settings.{new_settings}
@@ -75,10 +75,10 @@ module _ (m : Monitor) (z : Sized m) (time time' : ℕ) where
 -- ---- raw frames
 
 module _ (m : Monitor) (z : Sized m) (time : ℕ) where
-  reread_second : {p q : ParsedSv} → Reread time p q
+  reread_second : {p q : Result SvFrame VsError} → Reread time p q
       → answer_of (raw_result (parsed_inspected (parsed_inspected m p).monitor q)).answer
       ≡ refused_again 26 (answer_of (raw_result (parsed_inspected m p)).answer)
-  unfolding refused_sv clean_result
+  unfolding clean_result
   reread_second (frame f) = sv_second m z f.timestamp_us time f
   reread_second (refused e) = refl
 

@@ -18,7 +18,7 @@ use Rattle.wire.specs.Element.{element, elements_of, first_content, head_of, len
 use Rattle.wire.specs.Header.{apdu_of, appid_at, header, source_of}
 use Rattle.wire.specs.Number.{big_endian_from}
 use Rattle.sv_frame.specs.Field.{field_fits, overlaid, with_field}
-use Rattle.sv_frame.specs.Sv.{refused_sv, fields_from, apdu_frame, sv_frame}
+use Rattle.sv_frame.specs.Sv.{fields_from, apdu_frame, sv_frame}
 use Rattle.tables.specs.Column.{word_of, word_set, zero_words}
 use Rattle.tables.specs.Key.{name_word, summed, key_of}
 use Rattle.tables.specs.Named.{has_key, key_stored}
@@ -166,7 +166,7 @@ rows =
 instances : map (λ (r : List Answer × List Answer). r.0) rows ≡ map (λ (r : List Answer × List Answer). r.1) rows
 unfolding rows both expected mac sample in_set message select registered octets39 denies alert_of no_alert fnv1a hash_from hash_step tabulate agree
     overwritten clean_result allowed_with counted with_alert pushed expected_interval within_tolerance first_from last_below element elements_of first_content
-    head_of length_of opened within apdu_of appid_at header source_of big_endian_from field_fits overlaid with_field refused_sv fields_from apdu_frame sv_frame
+    head_of length_of opened within apdu_of appid_at header source_of big_endian_from field_fits overlaid with_field fields_from apdu_frame sv_frame
     word_of word_set zero_words name_word summed key_of has_key key_stored free_slot new_slot rank_of reranked rank_set used_slot no_entries packed found
     goose_fits_at goose_publisher with_goose_publisher goose_added replays goose_checked outside_tolerance retx_checked first_rule taken_at place_for reserved
     bound_at cb_checked add_answer sv_publisher with_sv_publisher sv_added count_outcome is_replay sv_checked has_clock earlier time_checked

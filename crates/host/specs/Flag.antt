@@ -1,6 +1,6 @@
 -- Flags and answers as numbers: what a caller in another language hands in and gets.
-use Rattle.std.specs.Prelude.{ℕ, Bool, not, cond, eqb, get_or}
-use Rattle.sv_frame.specs.declared.sv.Parsed.{Parsed}
+use Rattle.std.specs.Prelude.{ℕ, Bool, not, cond, eqb, get_or, Result}
+use Rattle.records.specs.declared.error.VsError.{VsError}
 use Rattle.sv_frame.specs.Sv.{parsed_row}
 use Rattle.checks.specs.declared.rules.Added.{Added}
 use Rattle.checks.specs.Rules.{added_row}
@@ -22,5 +22,5 @@ abbrev pub added_error : Added → ℕ
 added_error answer = get_or (added_row answer) 1 no_error
 
 -- the number of a raw frame's error, the second of its row; 255 where the frame was read
-abbrev pub parsed_error : Parsed → ℕ
+abbrev pub parsed_error : {T : Type 0} → Result T VsError → ℕ
 parsed_error answer = get_or (parsed_row answer) 1 no_error

@@ -1,16 +1,19 @@
 -- What the engine answers, in numbers: alerts, results and verdicts, and the monitor beside them.
-use Rattle.std.specs.Prelude.{ℕ, List, map}
+use Rattle.std.specs.Prelude.{ℕ, List, map, Result, Ok, Err}
 use Rattle.records.specs.declared.alert.CodedAlert.{CodedAlert}
 use Rattle.records.specs.declared.result.InspectResult.{InspectResult}
+use Rattle.records.specs.declared.error.VsError.{VsError}
+use Rattle.records.specs.declared.frame.SvFrame.{SvFrame}
+use Rattle.records.specs.Frame.{default_sv}
 use Rattle.records.specs.Alert.{severity_number, code_number}
+use Rattle.records.specs.Error.{error_number}
 use Rattle.records.specs.Verdict.{verdict_of}
-use Rattle.sv_frame.specs.declared.sv.ParsedSv.{ParsedSv}
 use Rattle.monitor.specs.Parts.{After}
 use Rattle.inspection.specs.declared.inspect_sv.RawSv.{RawSv}
 use Rattle.host.specs.declared.result.HostAlert.{HostAlert}
 use Rattle.host.specs.declared.result.HostResult.{HostResult}
 use Rattle.host.specs.declared.result.HostParsed.{HostParsed}
-use Rattle.host.specs.Flag.{flag_number, parsed_error}
+use Rattle.host.specs.Flag.{flag_number, no_error, parsed_error}
 
 -- an alert with its severity and its code as numbers
 abbrev pub host_alert : CodedAlert → HostAlert
@@ -43,9 +46,10 @@ raw_result s = (host_result s.result, parsed_error s.answer)
 abbrev pub raw_verdict : RawSv → List ℕ × ℕ
 raw_verdict s = (verdict_of s.result, parsed_error s.answer)
 
--- the frame read from octets, and the error's number
-abbrev pub host_parsed : ParsedSv → HostParsed
-host_parsed p = record { frame = p.frame; error = parsed_error p.answer }
+-- the frame read from octets, and the error's number; the default frame beside an error
+abbrev pub host_parsed : Result SvFrame VsError → HostParsed
+host_parsed (Ok f) = record { frame = f; error = no_error }
+host_parsed (Err e) = record { frame = default_sv; error = error_number e }
 
 -- a monitor, and the answer in numbers
 abbrev pub answered : {A B : Type 0} → (A → B) → After A → After B

@@ -3,7 +3,7 @@ ghost use Rattle.std.specs.Prelude.{◌≡◌};
 ghost use Rattle.host.specs.Flag.{flag_number, added_error, parsed_error};
 
 use checks::rules::Added;
-use sv_frame::sv::Parsed;
+use records::error::VsError;
 
 // No error: the errors are 0 to 14.
 pub const NO_ERROR: u8 = 255;
@@ -26,11 +26,11 @@ pub fn added_error(answer: Added) -> u8
 }
 
 // The number of a raw frame's error.
-pub fn parsed_error(answer: Parsed) -> u8
+pub fn parsed_error(answer: Result<(), VsError>) -> u8
     ensures { result ≡ parsed_error answer }
 {
     match answer {
-        Parsed::Frame => NO_ERROR,
-        Parsed::Error(e) => e.number(),
+        Ok(()) => NO_ERROR,
+        Err(e) => e.number(),
     }
 }

@@ -9,7 +9,7 @@ ghost use Rattle.inspection.specs.InspectSv.{inspect_sv, inspect_raw_sv};
 ghost use Rattle.host.specs.Frame.{mms_frame_of, goose_frame_of};
 ghost use Rattle.host.specs.Result.{host_result, raw_result, host_parsed, answered};
 
-use crate::flag::parsed_error;
+use crate::flag::{NO_ERROR, parsed_error};
 use crate::frame::{HostGooseFrame, HostMmsFrame};
 use crate::result::{HostInspected, HostParsed, HostRawInspected, HostResult, host_report};
 use entries::iec61850_monitor::Iec61850Monitor;
@@ -97,11 +97,14 @@ pub extern "C" fn mokyndu_inspect_raw_sv(
 pub extern "C" fn mokyndu_parse_sv(octets: &[u8], timestamp_us: u64) -> HostParsed
     ensures { result ≡ host_parsed (sv_frame octets.now timestamp_us) }
 {
-    let parsed = parse_sv(octets, timestamp_us);
-    let answer = parsed.answer;
-    let frame = parsed.frame;
-    HostParsed {
-        frame,
-        error: parsed_error(answer),
+    match parse_sv(octets, timestamp_us) {
+        Ok(frame) => HostParsed {
+            frame,
+            error: NO_ERROR,
+        },
+        Err(error) => HostParsed {
+            frame: SvFrame::default(),
+            error: error.number(),
+        },
     }
 }

@@ -3,7 +3,7 @@ use crate::{write_decimal, write_number, write_octets, write_text};
 use records::frame::SvFrame;
 use records::octets::put_octets;
 use std::io::Stdout;
-use sv_frame::sv::{Parsed, parse_sv};
+use sv_frame::sv::parse_sv;
 use wire::element::content;
 
 // Document 01's frame: svID M1, count 500.
@@ -35,15 +35,12 @@ fn write_fields(stdout: Stdout, f: SvFrame) {
 // What some octets read as.
 fn write_frame(stdout: Stdout, label: &[u8], octets: &[u8]) {
     write_text(stdout, label);
-    let read = parse_sv(octets, 7);
-    let answer = read.answer;
-    match answer {
-        Parsed::Frame => {
+    match parse_sv(octets, 7) {
+        Ok(frame) => {
             write_text(stdout, b": frame\n");
-            let frame = read.frame;
             write_fields(stdout, frame);
         }
-        Parsed::Error(e) => write_number(stdout, b": error ", u64::from(e.number())),
+        Err(e) => write_number(stdout, b": error ", u64::from(e.number())),
     }
 }
 

@@ -11,7 +11,6 @@ use records::name::padded_octets;
 use records::result::InspectResult;
 use records::service::MmsServiceType;
 use std::io::Stdout;
-use sv_frame::sv::Parsed;
 
 // A label and a number, within a line.
 pub fn write_part(stdout: Stdout, label: &[u8], n: u64) {
@@ -112,8 +111,8 @@ fn inspect_raw(
     let answer = raw.answer;
     let result = raw.result;
     match answer {
-        Parsed::Frame => write_verdict(stdout, result),
-        Parsed::Error(e) => write_number(stdout, b": error ", u64::from(e.number())),
+        Ok(()) => write_verdict(stdout, result),
+        Err(e) => write_number(stdout, b": error ", u64::from(e.number())),
     }
     inspected.monitor
 }
