@@ -6,6 +6,7 @@ use mathlib.Core.Path.{◌≡◌, refl, sym, ap, ◌∙◌, subst}
 use native.Mathlib.Omega.{arith}
 use lib.Dec.{eqb, ltb}
 use lib.ListN.{length, get_or}
+use Rattle.std.specs.Prelude.{Err}
 use Rattle.records.specs.declared.alert.AlertSeverity.TheVariants.{Medium}
 use Rattle.records.specs.declared.alert.AlertCode.TheVariants.{PolicyViolation}
 use Rattle.records.specs.declared.frame.GooseFrame.{GooseFrame}
@@ -19,7 +20,7 @@ use Rattle.tables.specs.Named.{named}
 use Rattle.tables.specs.Order.{no_entries, all_free}
 use Rattle.tables.proofs.PlaceLaws.{none_found_lem}
 use Rattle.tables.proofs.WordTables.{none_free}
-use Rattle.checks.specs.declared.sv_publisher.PublisherMatch.TheVariants.{NotRegistered}
+use Rattle.checks.specs.declared.sv_publisher.PublisherMismatch.TheVariants.{NotRegistered}
 use Rattle.checks.specs.GooseSeq.{GooseChecked, goose_checked}
 use Rattle.checks.specs.Keys.{plain_key}
 use Rattle.checks.specs.Reservation.{CbChecked, bound_by, cb_checked}
@@ -77,7 +78,7 @@ not_bound t key address e =
     cond_holds (λ (c : CbChecked). c ≡ record { table = t; hijack = false }) (eqb (get_or key 1 0) 0) refl
     (ap (bound_by t address) (none_found_lem named t key (ap all_free e ∙ none_free 210 (omega arith))))
 
-not_registered : (p : List ℕ) (address : ℕ) (svid : List ℕ) → sv_publisher_count p ≡ 0 → sv_publisher p address svid ≡ NotRegistered
+not_registered : (p : List ℕ) (address : ℕ) (svid : List ℕ) → sv_publisher_count p ≡ 0 → sv_publisher p address svid ≡ Err NotRegistered
 unfolding sv_publisher last_below
 not_registered p address svid e = rw e
 

@@ -18,7 +18,6 @@ ghost use Rattle.inspection.specs.InspectGoose.{inspect_goose};
 ghost use Rattle.inspection.specs.InspectMms.{inspect_mms};
 ghost use Rattle.inspection.specs.InspectSv.{inspect_sv, inspect_raw_sv};
 
-use checks::rules::Added;
 use inspection::address::address_of;
 use inspection::inspect_goose::inspect_goose_on;
 use inspection::inspect_mms::inspect_mms_on;
@@ -32,6 +31,7 @@ use monitor::settings::{
 use monitor::totals::{
     GOOSE_TOTAL_INSPECTED, MMS_TOTAL_INSPECTED, SV_TOTAL_INSPECTED, TOTAL_ALERTS, total_on,
 };
+use records::error::VsError;
 use records::frame::{GooseFrame, MmsFrame, SvFrame};
 use records::result::InspectResult;
 use records::schedule::RetxSchedule;
@@ -43,11 +43,13 @@ pub struct Iec61850Monitor {
     pub words: [u64; WORDS],
 }
 
+// Three structs and not one over the answer: each names what the call returns as the source does.
+
 // The monitor after an add call, with the answer.
 #[derive(Clone, Copy)]
 pub struct Configured {
     pub monitor: Iec61850Monitor,
-    pub answer: Added,
+    pub answer: Result<(), VsError>,
 }
 
 // The monitor after an inspection, with the result.
@@ -121,7 +123,7 @@ impl Iec61850Monitor {
         let answer = add_mms_rule_on(&mut out.words, service_mask, read_only, max_rate_per_sec);
         Configured {
             monitor: out,
-            answer: answer,
+            answer,
         }
     }
 
@@ -136,7 +138,7 @@ impl Iec61850Monitor {
         let answer = add_goose_publisher_on(&mut out.words, address_of(src_mac), go_cb_ref);
         Configured {
             monitor: out,
-            answer: answer,
+            answer,
         }
     }
 
@@ -160,7 +162,7 @@ impl Iec61850Monitor {
         );
         Configured {
             monitor: out,
-            answer: answer,
+            answer,
         }
     }
 
@@ -247,7 +249,7 @@ impl Iec61850Monitor {
         let result = inspect_mms_on(&mut out.words, frame);
         Inspected {
             monitor: out,
-            result: result,
+            result,
         }
     }
 
@@ -259,7 +261,7 @@ impl Iec61850Monitor {
         let result = inspect_goose_on(&mut out.words, frame);
         Inspected {
             monitor: out,
-            result: result,
+            result,
         }
     }
 
@@ -271,7 +273,7 @@ impl Iec61850Monitor {
         let result = inspect_sv_on(&mut out.words, frame);
         Inspected {
             monitor: out,
-            result: result,
+            result,
         }
     }
 

@@ -5,10 +5,11 @@ use mathlib.Core.List.{List, [], ◌∷◌, ◌++◌}
 use mathlib.Core.Path.{◌≡◌, refl, sym, ap, ◌∙◌}
 use lib.Dec.{eqb, ltb}
 use lib.ListN.{length, get_or}
+use Rattle.std.specs.Prelude.{Result, Ok, Err}
 use Rattle.records.specs.Alert.{code_number, denies}
 use Rattle.records.proofs.Booleans.{cond_no, cond_holds}
-use Rattle.checks.specs.declared.sv_publisher.PublisherMatch.{PublisherMatch}
-use Rattle.checks.specs.declared.sv_publisher.PublisherMatch.TheVariants.{NotRegistered, WrongAddress, Fits}
+use Rattle.checks.specs.declared.sv_publisher.PublisherMismatch.{PublisherMismatch}
+use Rattle.checks.specs.declared.sv_publisher.PublisherMismatch.TheVariants.{NotRegistered, WrongAddress}
 use Rattle.checks.specs.declared.sv_seq.SvSeqOutcome.{SvSeqOutcome}
 use Rattle.checks.specs.declared.sv_seq.SvSeqOutcome.TheVariants.{FirstSeen, Replay, ForwardGap, CycleWrap, SuspiciousSmpGap}
 use Rattle.checks.specs.SvPublisher.{sv_publisher_count, sv_publisher}
@@ -168,10 +169,10 @@ ruled : (m : Monitor) (address : ℕ) (svid : List ℕ) → Ruled (sv_rule m add
 unfolding sv_rule
 ruled m address svid = go (sv_publisher m.sv_publishers address svid)
   where
-    go : (p : PublisherMatch) → Ruled (sv_matched (strict_mode m) m.sv_publishers p)
-    go WrongAddress = wrong_address
-    go NotRegistered = cond_holds Ruled (strict_mode m && ltb 0 (sv_publisher_count m.sv_publishers)) unknown (rated 0)
-    go (Fits i) = rated _
+    go : (p : Result ℕ PublisherMismatch) → Ruled (sv_matched (strict_mode m) m.sv_publishers p)
+    go (Err WrongAddress) = wrong_address
+    go (Err NotRegistered) = cond_holds Ruled (strict_mode m && ltb 0 (sv_publisher_count m.sv_publishers)) unknown (rated 0)
+    go (Ok i) = rated _
 
 -- the checks by that
 abbrev sv_by : Result ℕ CheckAlert → Monitor → SvRead → Checked
