@@ -8,6 +8,7 @@ ghost use Rattle.checks.specs.SvSeq.{sv_checked};
 
 use checks::keys::plain_key;
 use checks::sv_seq::{SvSeqOutcome, check_sv_seq_in};
+use records::name::Name;
 use tables::order::clear;
 
 // Sixteen streams, each of one svID, with its last count.
@@ -52,7 +53,10 @@ pub fn check_sv_seq(table: SvSeqTable, svid: [u8; 64], svid_len: u8, smp_cnt: u1
         ≡ sv_checked table.words (plain_key (name_of svid svid_len)) smp_cnt }
 {
     let mut out = table;
-    let key = plain_key(svid, svid_len);
+    let key = plain_key(Name {
+        octets: &svid,
+        len: svid_len,
+    });
     let outcome = check_table(&mut out.words, &key, smp_cnt);
     SvChecked {
         table: out,

@@ -11,6 +11,7 @@ use inspection::inspect_goose::{GooseNumbers, goose_checks_on, name_hash};
 use inspection::report::{CheckAlerts, verdict_on};
 use monitor::parts::WORDS;
 use monitor::totals::{GOOSE_TOTAL_INSPECTED, count_frame_on};
+use records::name::Name;
 
 // What the checks read of a frame beside its control block's name.
 fn goose_numbers(o: &[u8]) -> GooseNumbers
@@ -37,7 +38,14 @@ fn check_goose_lent(m: &mut [u64; WORDS], o: &[u8]) -> CheckAlerts
 {
     let n = goose_numbers(o);
     count_frame_on(m, GOOSE_TOTAL_INSPECTED);
-    goose_checks_on(m, &octets_at(o, 6), o[70], n)
+    goose_checks_on(
+        m,
+        Name {
+            octets: &octets_at(o, 6),
+            len: o[70],
+        },
+        n,
+    )
 }
 
 // Inspects a frame, and answers the verdict.

@@ -14,6 +14,7 @@ use inspection::report::{CheckAlerts, verdict_on};
 use monitor::parts::WORDS;
 use monitor::totals::{SV_TOTAL_INSPECTED, count_frame_on};
 use records::error::VsError;
+use records::name::Name;
 use sv_frame::field::name_len;
 use sv_frame::places::{SvPlaces, name_octets, sv_places};
 use sv_frame::sv::sv_asdu;
@@ -54,9 +55,14 @@ fn check_places(m: &mut [u64; WORDS], asdu: &[u8], source: [u8; 6], p: SvPlaces)
     count_frame_on(m, SV_TOTAL_INSPECTED);
     sv_checks_on(
         m,
-        &plain_key(name_octets(svid), name_len(svid)),
-        &name_octets(dataset),
-        name_len(dataset),
+        &plain_key(Name {
+            octets: &name_octets(svid),
+            len: name_len(svid),
+        }),
+        Name {
+            octets: &name_octets(dataset),
+            len: name_len(dataset),
+        },
         n,
     )
 }

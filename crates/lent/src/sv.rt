@@ -12,6 +12,7 @@ use inspection::inspect_sv::{SvNumbers, sv_checks_on};
 use inspection::report::{CheckAlerts, verdict_on};
 use monitor::parts::WORDS;
 use monitor::totals::{SV_TOTAL_INSPECTED, count_frame_on};
+use records::name::Name;
 
 // What the checks read of a frame beside its names.
 fn sv_numbers(o: &[u8]) -> SvNumbers
@@ -37,9 +38,14 @@ pub fn check_sv_lent(m: &mut [u64; WORDS], o: &[u8]) -> CheckAlerts
     count_frame_on(m, SV_TOTAL_INSPECTED);
     sv_checks_on(
         m,
-        &plain_key(octets_at(o, 7), o[6]),
-        &octets_at(o, 77),
-        o[76],
+        &plain_key(Name {
+            octets: &octets_at(o, 7),
+            len: o[6],
+        }),
+        Name {
+            octets: &octets_at(o, 77),
+            len: o[76],
+        },
         n,
     )
 }
