@@ -1,8 +1,7 @@
 -- Flags and answers as numbers: what a caller in another language hands in and gets.
 use Rattle.std.specs.Prelude.{ℕ, Bool, not, cond, eqb, get_or, Result}
-use Rattle.records.specs.declared.error.VsError.{VsError}
 use Rattle.sv_frame.specs.Sv.{parsed_row}
-use Rattle.checks.specs.declared.rules.Added.{Added}
+use Rattle.records.specs.declared.error.VsError.{VsError}
 use Rattle.checks.specs.Rules.{added_row}
 
 -- a flag handed in: any number but 0 is true
@@ -18,7 +17,7 @@ abbrev pub no_error : ℕ
 no_error = 255
 
 -- the number of an add call's error, the second of its row; 255 where the rule was added
-abbrev pub added_error : Added → ℕ
+abbrev pub added_error : Result (Unit {0}) VsError → ℕ
 added_error answer = get_or (added_row answer) 1 no_error
 
 -- the number of a raw frame's error, the second of its row; 255 where the frame was read

@@ -2,7 +2,6 @@
 ghost use Rattle.std.specs.Prelude.{◌≡◌};
 ghost use Rattle.host.specs.Flag.{flag_number, added_error, parsed_error};
 
-use checks::rules::Added;
 use records::error::VsError;
 
 // No error: the errors are 0 to 14.
@@ -16,12 +15,12 @@ pub fn flag_number(b: bool) -> u8
 }
 
 // The number of an add call's error.
-pub fn added_error(answer: Added) -> u8
+pub fn added_error(answer: Result<(), VsError>) -> u8
     ensures { result ≡ added_error answer }
 {
     match answer {
-        Added::Rule => NO_ERROR,
-        Added::Error(e) => e.number(),
+        Ok(()) => NO_ERROR,
+        Err(e) => e.number(),
     }
 }
 

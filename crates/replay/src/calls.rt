@@ -6,7 +6,6 @@ use answers::queries::{put_parsing, put_query};
 use answers::refusal::put_error;
 use answers::result::put_result;
 use answers::totals::put_line_end;
-use checks::rules::Added;
 use inspection::address::address_of;
 use inspection::inspect_goose::inspect_goose_on;
 use inspection::inspect_mms::inspect_mms_on;
@@ -17,6 +16,7 @@ use monitor::settings::{
     set_block_test_frames_on, set_mms_read_only_on, set_mms_service_mask_on, set_retx_schedule_on,
     set_sv_max_smp_cnt_gap_on, set_time_max_forward_jump_s_on,
 };
+use records::error::VsError;
 use records::octets::octet_at;
 use records::result::InspectResult;
 use script::arguments::{flag_at, mac_at, rest_at, u16_at, u32_at, u64_at};
@@ -40,7 +40,7 @@ fn settle(m: &mut [u64; WORDS], number: u8, call: &[u8]) {
 }
 
 // One of the calls 10 to 12. A name is what the call has behind its numbers.
-fn add(m: &mut [u64; WORDS], number: u8, call: &[u8]) -> Added {
+fn add(m: &mut [u64; WORDS], number: u8, call: &[u8]) -> Result<(), VsError> {
     match number {
         10 => add_mms_rule_on(m, u16_at(call, 1), flag_at(call, 3), u16_at(call, 4)),
         11 => add_goose_publisher_on(m, address_of(mac_at(call, 1)), rest_at(call, 7)),
@@ -54,13 +54,13 @@ fn add(m: &mut [u64; WORDS], number: u8, call: &[u8]) -> Added {
 }
 
 // Puts the answer of an add call.
-fn put_added(line: &mut [u8], at: usize, answer: Added) -> usize
+fn put_added(line: &mut [u8], at: usize, answer: Result<(), VsError>) -> usize
     requires { at ≤ length line.old }
     ensures { IsPrefixLen result line.new }
 {
     match answer {
-        Added::Rule => append(line, at, b"added"),
-        Added::Error(error) => put_error(line, at, error.number()),
+        Ok(()) => append(line, at, b"added"),
+        Err(error) => put_error(line, at, error.number()),
     }
 }
 
