@@ -72,31 +72,29 @@ pub fn fraction_or(old: u32, time: &[u8]) -> u32
     big_endian(&time[4..7])
 }
 
-// A frame with one more field of its ASDU.
-pub fn with_field(frame: SvFrame, tag: u8, field: &[u8]) -> SvFrame
-    ensures { result ≡ with_field frame tag field.now }
+// Puts one more field of its ASDU into a frame.
+pub fn put_field(frame: &mut SvFrame, tag: u8, field: &[u8])
+    ensures { frame.new ≡ with_field frame.old tag field.now }
 {
-    let mut out = frame;
     match tag {
         SVID => {
-            overlay(&mut out.svid, field);
-            out.svid_len = name_len(field);
+            overlay(&mut frame.svid, field);
+            frame.svid_len = name_len(field);
         }
         DAT_SET => {
-            overlay(&mut out.dataset_ref, field);
-            out.dataset_ref_len = name_len(field);
+            overlay(&mut frame.dataset_ref, field);
+            frame.dataset_ref_len = name_len(field);
         }
         SMP_CNT => {
-            out.smp_cnt = pair_at(field, 0);
+            frame.smp_cnt = pair_at(field, 0);
         }
         REFR_TM => {
-            out.t_seconds_since_epoch = seconds_or(frame.t_seconds_since_epoch, field);
-            out.t_fraction_of_second = fraction_or(frame.t_fraction_of_second, field);
+            frame.t_seconds_since_epoch = seconds_or(frame.t_seconds_since_epoch, field);
+            frame.t_fraction_of_second = fraction_or(frame.t_fraction_of_second, field);
         }
         SMP_RATE => {
-            out.smp_rate = decode_unsigned_int(field).unwrap_or(frame.smp_rate);
+            frame.smp_rate = decode_unsigned_int(field).unwrap_or(frame.smp_rate);
         }
         _ => {}
     }
-    out
 }

@@ -35,11 +35,10 @@ fn no_places() -> SvPlaces
     }
 }
 
-// The places with one more field, which stands at a place of the ASDU.
-fn with_place(p: SvPlaces, tag: u8, place: Part, field: &[u8]) -> SvPlaces
-    ensures { result ≡ with_place p tag place field.now }
+// Puts one more field, which stands at a place of the ASDU.
+fn put_place(out: &mut SvPlaces, tag: u8, place: Part, field: &[u8])
+    ensures { out.new ≡ with_place out.old tag place field.now }
 {
-    let mut out = p;
     match tag {
         SVID => {
             out.svid = place;
@@ -51,15 +50,14 @@ fn with_place(p: SvPlaces, tag: u8, place: Part, field: &[u8]) -> SvPlaces
             out.smp_cnt = pair_at(field, 0);
         }
         REFR_TM => {
-            out.seconds = seconds_or(p.seconds, field);
-            out.fraction = fraction_or(p.fraction, field);
+            out.seconds = seconds_or(out.seconds, field);
+            out.fraction = fraction_or(out.fraction, field);
         }
         SMP_RATE => {
-            out.smp_rate = decode_unsigned_int(field).unwrap_or(p.smp_rate);
+            out.smp_rate = decode_unsigned_int(field).unwrap_or(out.smp_rate);
         }
         _ => {}
     }
-    out
 }
 
 // The places of an ASDU's fields, one after the other: the frame that they give, read where it stands. Without a count it is InvalidInput.
@@ -80,7 +78,7 @@ pub fn sv_places(asdu: &[u8]) -> Result<SvPlaces, VsError>
             return Err(VsError::InvalidInput);
         }
         let len = element.len;
-        out = with_place(out, element.tag, Part { start, len }, field);
+        put_place(&mut out, element.tag, Part { start, len }, field);
         counted |= element.tag == SMP_CNT;
         at = end;
     }

@@ -5,7 +5,7 @@ ghost use Rattle.wire.specs.Element.{elements};
 ghost use Rattle.sv_frame.specs.Refusals.{FrameOr9};
 ghost use Rattle.sv_frame.specs.Sv.{fields_from, apdu_frame, sv_frame, asdu_place};
 
-use crate::field::{ASDU, SAV_PDU, SEQ_ASDU, SMP_CNT, field_fits, with_field};
+use crate::field::{ASDU, SAV_PDU, SEQ_ASDU, SMP_CNT, field_fits, put_field};
 use records::error::VsError;
 use records::frame::SvFrame;
 use wire::element::{Part, content, first_content, opened};
@@ -28,7 +28,7 @@ pub fn read_fields(asdu: &[u8], frame: SvFrame) -> Result<SvFrame, VsError>
         if !field_fits(element.tag, field) {
             return Err(VsError::InvalidInput);
         }
-        out = with_field(out, element.tag, field);
+        put_field(&mut out, element.tag, field);
         counted |= element.tag == SMP_CNT;
         reader = reader.past(front);
     }

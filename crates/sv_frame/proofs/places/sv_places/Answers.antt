@@ -71,7 +71,7 @@ loop-at-preserved c = let l = c.loop-at in
       w.1,
       l.invariant.1
           ∙ walked_more asdu l.out l.counted l.at c.parse_tlv.ensures c.in-Some.is (content asdu l.at _ _ _ w.2) c.field_fits.ensures
-          c.if-not-field_fits.false l.invariant.0 c.with_place-out.ensures refl,
+          c.if-not-field_fits.false l.invariant.0 c.put_place.ensures refl,
     )
 
 pub returns-then-not-counted : goal.returns-then-not-counted

@@ -29,7 +29,7 @@ loop-reader-preserved c = let l = c.loop-reader in
     let k = rw c.unread-in-loop-reader.ensures at c.content-field.ensures in
     l.invariant
     ∙ fields_turn l.out l.counted l.reader.unread.now (sym c.front-front.ensures ∙ c.in-Some.is) k c.field_fits.ensures c.if-not-field_fits.false
-    c.with_field-out.ensures refl c.past-reader.ensures
+    c.put_field.ensures refl c.past-reader.ensures
 
 pub returns-then-not-counted : goal.returns-then-not-counted
 returns-then-not-counted c = let l = c.loop-reader in

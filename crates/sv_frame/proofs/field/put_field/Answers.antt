@@ -1,28 +1,28 @@
--- `with_field` meets its contract.
+-- `put_field` meets its contract.
 use borrow.Author.Tests.{ne_eqb}
 use native.Mathlib.Omega.{arith}
 use Rattle.sv_frame.specs.Field.{svid_tag, dat_set_tag, smp_cnt_tag, refr_tm_tag, smp_rate_tag, with_field}
-use Rattle.sv_frame.proofs.field.with_field.Goals as goal
+use Rattle.sv_frame.proofs.field.put_field.Goals as goal
 
 pub returns-in-128 : goal.returns-in-128
 unfolding with_field
-returns-in-128 c = rw (c.name_len.ensures, c.overlay.ensures, c.in-128.is)
+returns-in-128 c = rw (c.name_len-frame.ensures, c.overlay.ensures, c.in-128.is)
 
 pub returns-in-129 : goal.returns-in-129
 unfolding with_field
-returns-in-129 c = rw (c.name_len-in-129.ensures, c.overlay-in-129.ensures, c.in-129.is)
+returns-in-129 c = rw (c.name_len-frame-in-129.ensures, c.overlay-in-129.ensures, c.in-129.is)
 
 pub returns-in-130 : goal.returns-in-130
 unfolding with_field
-returns-in-130 c = rw (c.pair_at.ensures, c.in-130.is)
+returns-in-130 c = rw (c.pair_at-frame.ensures, c.in-130.is)
 
 pub returns-in-132 : goal.returns-in-132
 unfolding with_field
-returns-in-132 c = rw (c.fraction_or.ensures, c.seconds_or.ensures, c.in-132.is)
+returns-in-132 c = rw (c.fraction_or-frame.ensures, c.seconds_or-frame.ensures, c.in-132.is)
 
 pub returns-in-134 : goal.returns-in-134
 unfolding with_field
-returns-in-134 c = rw (c.unwrap_or.ensures, c.decode_unsigned_int.ensures, c.in-134.is)
+returns-in-134 c = rw (c.unwrap_or-frame.ensures, c.decode_unsigned_int.ensures, c.in-134.is)
 
 pub returns-in_default : goal.returns-in_default
 unfolding with_field
