@@ -4,13 +4,12 @@ use records::octets::octet_at;
 
 // N octets from a place on.
 pub fn octets_at<const N: usize>(arguments: &[u8], at: usize) -> [u8; N] {
-    let mut octets = [0; N];
     let part = rest_at(arguments, at);
-    if part.len() >= N {
-        octets.copy_from_slice(&part[..N]);
-    } else {
-        octets[..part.len()].copy_from_slice(part);
+    if let Some(octets) = part.first_chunk::<N>() {
+        return *octets;
     }
+    let mut octets = [0; N];
+    octets[..part.len()].copy_from_slice(part);
     octets
 }
 

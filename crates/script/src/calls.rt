@@ -1,5 +1,5 @@
 // The calls of a script: their names, and the kinds of their arguments.
-use Call::{Add, Ask, Inspect, InspectRawSv, Set};
+use Call::{Add, Ask, InspectGoose, InspectMms, InspectRawSv, InspectSv, Set};
 use Kind::{Address, Flag, Name, Octets, U8, U16, U32, U64};
 
 // What an argument is: a number of so many bits, a flag, an address, a name, or octets, which can only be the last.
@@ -38,14 +38,6 @@ pub enum Addition {
     SvPublisher,
 }
 
-// The calls that inspect a frame.
-#[derive(Clone, Copy)]
-pub enum Inspection {
-    Mms,
-    Goose,
-    Sv,
-}
-
 // The calls that ask no monitor.
 #[derive(Clone, Copy)]
 pub enum Query {
@@ -59,13 +51,31 @@ pub enum Query {
 pub enum Call {
     Set(Setting),
     Add(Addition),
-    Inspect(Inspection),
+    InspectMms,
+    InspectGoose,
+    InspectSv,
     InspectRawSv,
     Ask(Query),
 }
 
-// The calls by their names, with the kinds of their arguments.
+// The calls by their names, with the kinds of their arguments. Those of which a script has most stand first: the search goes in this order.
 static CALLS: [(&str, Call, &[Kind]); 21] = [
+    (
+        "inspect_sv",
+        InspectSv,
+        &[Address, Name, U16, U16, Name, U64, U32, U32],
+    ),
+    (
+        "inspect_goose",
+        InspectGoose,
+        &[Address, Name, U32, U32, Flag, U64, U32, U32],
+    ),
+    (
+        "inspect_mms",
+        InspectMms,
+        &[U8, U8, Name, U32, U64, U32, Flag],
+    ),
+    ("inspect_raw_sv", InspectRawSv, &[U64, Octets]),
     ("new", Set(Setting::New), &[]),
     ("new_strict", Set(Setting::NewStrict), &[]),
     ("reset", Set(Setting::Reset), &[]),
@@ -103,22 +113,6 @@ static CALLS: [(&str, Call, &[Kind]); 21] = [
         Add(Addition::SvPublisher),
         &[Address, U16, Octets],
     ),
-    (
-        "inspect_mms",
-        Inspect(Inspection::Mms),
-        &[U8, U8, Name, U32, U64, U32, Flag],
-    ),
-    (
-        "inspect_goose",
-        Inspect(Inspection::Goose),
-        &[Address, Name, U32, U32, Flag, U64, U32, U32],
-    ),
-    (
-        "inspect_sv",
-        Inspect(Inspection::Sv),
-        &[Address, Name, U16, U16, Name, U64, U32, U32],
-    ),
-    ("inspect_raw_sv", InspectRawSv, &[U64, Octets]),
     ("service", Ask(Query::Service), &[U8]),
     (
         "interval",
@@ -129,12 +123,7 @@ static CALLS: [(&str, Call, &[Kind]); 21] = [
     ("bucket", Ask(Query::Bucket), &[U16, U16, U64, U64]),
 ];
 
-// The call that a word names, and the kinds of its arguments.
-pub fn named_call(word: &[u8]) -> Option<(Call, &'static [Kind])> {
-    for (name, call, kinds) in CALLS.iter() {
-        if name.as_bytes() == word {
-            return Some((*call, *kinds));
-        }
-    }
-    None
+// The call that a word names, with the kinds of its arguments behind its name.
+pub fn named_call(word: &[u8]) -> Option<&'static (&'static str, Call, &'static [Kind])> {
+    CALLS.iter().find(|(name, _, _)| name.as_bytes() == word)
 }

@@ -21,7 +21,7 @@ pub struct Input<'a> {
 }
 
 // Whether there is a line feed in a block. All octets are looked at, so that they can be at once.
-fn has_line_feed(block: &[u8]) -> bool {
+fn has_line_feed(block: &[u8; 16]) -> bool {
     block
         .iter()
         .fold(false, |found, octet| found | (*octet == b'\n'))
@@ -31,8 +31,12 @@ fn has_line_feed(block: &[u8]) -> bool {
 fn line_feed(part: &[u8]) -> usize
     ensures { result ≤ length part.now }
 {
-    let blocks = part.chunks_exact(16);
-    let start = 16 * blocks.take_while(|block| !has_line_feed(*block)).count();
+    let (blocks, _) = part.as_chunks::<16>();
+    let start = 16
+        * blocks
+            .iter()
+            .take_while(|block| !has_line_feed(*block))
+            .count();
     match part[start..].iter().position(|octet| *octet == b'\n') {
         Some(n) => start + n,
         None => part.len(),

@@ -43,6 +43,7 @@ fn store_arguments(
 }
 
 // Reads a line: the call, whose arguments are put behind what was, or none, if there is nothing to answer.
+#[inline(never)]
 pub fn read_line(line: &[u8], arguments: &mut OctetWriter) -> Result<Option<Call>, LineError>
     ensures { length arguments.new.octets.now ≡ length arguments.old.octets.now }
 {
@@ -51,7 +52,7 @@ pub fn read_line(line: &[u8], arguments: &mut OctetWriter) -> Result<Option<Call
         return Ok(None);
     }
     let end = short_word_end(line, start);
-    let (call, kinds) = named_call(&line[start..end]).ok_or(LineError::UnknownCall)?;
-    store_arguments(kinds, line, end, arguments)?;
-    Ok(Some(call))
+    let (_, call, kinds) = named_call(&line[start..end]).ok_or(LineError::UnknownCall)?;
+    store_arguments(*kinds, line, end, arguments)?;
+    Ok(Some(*call))
 }

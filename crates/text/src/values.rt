@@ -1,15 +1,18 @@
 // What a word says: a decimal number, or octets as hexadecimal digits or as text.
 ghost use Rattle.std.specs.Prelude.{◌+◌, ◌≤◌, length, IfSome};
 
-// A hexadecimal digit's value, 16 if it is none: a number, so that a block of them is read at once (see `hex_block`).
+// A hexadecimal digit's value, 16 if it is none: a number, and without a jump for each octet, so that `hex_octets` can read many at once.
 fn hex_value(digit: u8) -> u8
     ensures { result ≤ 16 }
 {
-    match digit {
-        b'0'..=b'9' => digit - b'0',
-        b'A'..=b'F' => digit - b'A' + 10,
-        b'a'..=b'f' => digit - b'a' + 10,
-        _ => 16,
+    let decimal = digit.wrapping_sub(b'0');
+    let letter = (digit | 0x20).wrapping_sub(b'a');
+    if decimal <= 9 {
+        decimal
+    } else if letter <= 5 {
+        letter + 10
+    } else {
+        16
     }
 }
 
@@ -52,59 +55,36 @@ pub fn digits_at(line: &[u8], at: usize) -> Digits
     }
 }
 
-// The octets of 16 pairs of hexadecimal digits, and whether all are such. None is left out of the loops, so that they can be read at once.
-fn hex_block(word: &[u8], out: &mut [u8]) -> bool
-    requires word_in_bounds { 32 ≤ length word.now }
-    requires out_in_bounds { 16 ≤ length out.old }
-{
-    let mut values = [0u8; 32];
-    let mut most: u8 = 0;
-    for i in 0..32 {
-        values[i] = hex_value(word[i]);
-        most |= values[i];
-    }
-    for i in 0..16 {
-        out[i] = (values[2 * i] << 4) | values[2 * i + 1];
-    }
-    most <= 15
-}
-
-// Octets as pairs of hexadecimal digits: how many.
+// Octets as pairs of hexadecimal digits: how many. All pairs are read before a digit that is none counts, so that many can be at once.
 fn hex_octets(word: &[u8], out: &mut [u8]) -> Option<usize>
     ensures { IfSome result (λ n. n ≤ length out.new) }
 {
-    let n = word.len() / 2;
-    if word.len() % 2 != 0 || n > out.len() {
+    let (pairs, rest) = word.as_chunks::<2>();
+    if !rest.is_empty() || pairs.len() > out.len() {
         return None;
     }
-    let blocks = n / 16;
-    for i in 0..blocks {
-        if !hex_block(&word[32 * i..], &mut out[16 * i..]) {
-            return None;
-        }
-    }
-    for i in 16 * blocks..n {
-        let high = hex_value(word[2 * i]);
-        let low = hex_value(word[2 * i + 1]);
-        if high | low > 15 {
-            return None;
-        }
+    let mut most = 0;
+    for (i, pair) in pairs.iter().enumerate() {
+        let high = hex_value(pair[0]);
+        let low = hex_value(pair[1]);
+        most |= high | low;
         out[i] = (high << 4) | low;
     }
-    Some(n)
+    if most > 15 { None } else { Some(pairs.len()) }
 }
 
 // Whether text may have an octet: printable ASCII but the space and the quotation mark.
 fn is_text(octet: u8) -> bool {
-    octet.is_ascii_graphic() && octet != b'"'
+    octet.is_ascii_graphic() & (octet != b'"')
 }
 
-// Octets as they stand between quotation marks: how many.
+// Octets as they stand between quotation marks: how many. All are looked at, so that many can be at once.
 fn text_octets(text: &[u8], out: &mut [u8]) -> Option<usize>
     ensures { IfSome result (λ n. n ≤ length out.new) }
 {
     let n = text.len();
-    if n > out.len() || !text.iter().all(|octet| is_text(*octet)) {
+    let good = text.iter().fold(true, |good, octet| good & is_text(*octet));
+    if !good || n > out.len() {
         return None;
     }
     out[..n].copy_from_slice(text);
