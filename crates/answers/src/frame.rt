@@ -1,62 +1,40 @@
 // The text of a frame that was read: every field of it.
-ghost use Rattle.std.specs.Prelude.{◌≤◌, length};
-ghost use Rattle.text.specs.Counts.{IsPrefixLen};
+ghost use Rattle.std.specs.Prelude.{◌≡◌, length};
 
 use crate::refusal::put_error;
 use records::error::VsError;
 use records::frame::SvFrame;
-use text::put::{append, put_hex, put_number};
+use text::put::OctetWriter;
 
 // Puts a name's stated length and all its octets.
-fn put_stated(line: &mut [u8], at: usize, len: u8, name: &[u8]) -> usize
-    requires { at ≤ length line.old }
-    ensures { IsPrefixLen result line.new }
+fn put_stated(out: &mut OctetWriter, len: u8, name: &[u8])
+    ensures { length out.new.octets.now ≡ length out.old.octets.now }
 {
-    let end = put_number(line, at, b" ", len as u64);
-    put_hex(line, end, name)
-}
-
-// Puts a frame's first five fields: source, svID, count and rate.
-fn put_first_fields(line: &mut [u8], at: usize, frame: SvFrame) -> usize
-    requires { at ≤ length line.old }
-    ensures { IsPrefixLen result line.new }
-{
-    let mut end = put_hex(line, at, &frame.src_mac);
-    end = put_stated(line, end, frame.svid_len, &frame.svid);
-    end = put_number(line, end, b" ", frame.smp_cnt as u64);
-    put_number(line, end, b" ", frame.smp_rate as u64)
-}
-
-// Puts a frame's other five fields: data set and times.
-fn put_last_fields(line: &mut [u8], at: usize, frame: SvFrame) -> usize
-    requires { at ≤ length line.old }
-    ensures { IsPrefixLen result line.new }
-{
-    let seconds = frame.t_seconds_since_epoch as u64;
-    let fraction = frame.t_fraction_of_second as u64;
-    let mut end = put_stated(line, at, frame.dataset_ref_len, &frame.dataset_ref);
-    end = put_number(line, end, b" ", frame.timestamp_us);
-    end = put_number(line, end, b" ", seconds);
-    put_number(line, end, b" ", fraction)
+    out.put_number(b" ", u64::from(len));
+    out.put_hex(name);
 }
 
 // Puts every field of a frame, in the order in which they are declared.
-fn put_frame(line: &mut [u8], at: usize, frame: SvFrame) -> usize
-    requires { at ≤ length line.old }
-    ensures { IsPrefixLen result line.new }
+fn put_frame(out: &mut OctetWriter, frame: &SvFrame)
+    ensures { length out.new.octets.now ≡ length out.old.octets.now }
 {
-    let start = append(line, at, b"frame");
-    let middle = put_first_fields(line, start, frame);
-    put_last_fields(line, middle, frame)
+    out.append(b"frame");
+    out.put_hex(&frame.src_mac);
+    put_stated(out, frame.svid_len, &frame.svid);
+    out.put_number(b" ", u64::from(frame.smp_cnt));
+    out.put_number(b" ", u64::from(frame.smp_rate));
+    put_stated(out, frame.dataset_ref_len, &frame.dataset_ref);
+    out.put_number(b" ", frame.timestamp_us);
+    out.put_number(b" ", u64::from(frame.t_seconds_since_epoch));
+    out.put_number(b" ", u64::from(frame.t_fraction_of_second));
 }
 
 // Puts what was read of a raw frame, or why nothing was.
-pub fn put_parsed(line: &mut [u8], at: usize, parsed: Result<SvFrame, VsError>) -> usize
-    requires { at ≤ length line.old }
-    ensures { IsPrefixLen result line.new }
+pub fn put_parsed(out: &mut OctetWriter, parsed: Result<SvFrame, VsError>)
+    ensures { length out.new.octets.now ≡ length out.old.octets.now }
 {
     match parsed {
-        Ok(frame) => put_frame(line, at, frame),
-        Err(error) => put_error(line, at, error.number()),
+        Ok(frame) => put_frame(out, &frame),
+        Err(error) => put_error(out, error.number()),
     }
 }

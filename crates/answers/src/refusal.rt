@@ -1,38 +1,34 @@
 // The text of an error, and of a line that is no call.
-ghost use Rattle.std.specs.Prelude.{◌≤◌, length};
-ghost use Rattle.text.specs.Counts.{IsPrefixLen};
+ghost use Rattle.std.specs.Prelude.{◌≡◌, length};
 
-use script::line::Line;
-use text::put::{append, put_number};
+use script::line::LineError;
+use text::put::OctetWriter;
 
 // Puts the error's number.
-pub fn put_error(line: &mut [u8], at: usize, number: u8) -> usize
-    requires { at ≤ length line.old }
-    ensures { IsPrefixLen result line.new }
+pub fn put_error(out: &mut OctetWriter, number: u8)
+    ensures { length out.new.octets.now ≡ length out.old.octets.now }
 {
-    put_number(line, at, b"error ", number as u64)
+    out.put_number(b"error ", u64::from(number));
 }
 
 // Puts which argument of a line is not as it must be, and why.
-fn put_argument(line: &mut [u8], at: usize, k: usize, why: &[u8]) -> usize
-    requires { at ≤ length line.old }
-    ensures { IsPrefixLen result line.new }
+fn put_argument(out: &mut OctetWriter, k: usize, why: &[u8])
+    ensures { length out.new.octets.now ≡ length out.old.octets.now }
 {
-    let end = put_number(line, at, b": argument ", k as u64);
-    append(line, end, why)
+    out.put_number(b": argument ", k as u64);
+    out.append(why);
 }
 
 // Puts why the line of a number is no call.
-pub fn put_malformed(line: &mut [u8], at: usize, number: u64, read: Line) -> usize
-    requires { at ≤ length line.old }
-    ensures { IsPrefixLen result line.new }
+pub fn put_malformed(out: &mut OctetWriter, number: u64, error: LineError)
+    ensures { length out.new.octets.now ≡ length out.old.octets.now }
 {
-    let end = put_number(line, at, b"malformed line ", number);
-    match read {
-        Line::Missing(k) => put_argument(line, end, k, b" missing\n"),
-        Line::Malformed(k) => put_argument(line, end, k, b" malformed\n"),
-        Line::Unexpected(k) => put_argument(line, end, k, b" unexpected\n"),
-        Line::UnknownCall => append(line, end, b": unknown call\n"),
-        _ => append(line, end, b": too long\n"),
+    out.put_number(b"malformed line ", number);
+    match error {
+        LineError::TooLong => out.append(b": too long\n"),
+        LineError::UnknownCall => out.append(b": unknown call\n"),
+        LineError::Missing(k) => put_argument(out, k, b" missing\n"),
+        LineError::Malformed(k) => put_argument(out, k, b" malformed\n"),
+        LineError::Unexpected(k) => put_argument(out, k, b" unexpected\n"),
     }
 }

@@ -1,278 +1,149 @@
-// Stores an argument in the record of a call, by its kind. Each function takes the word and the place in the call, and answers the
-// place behind what it stored; numbers stand most significant octet first.
-ghost use Rattle.std.specs.Prelude.{◌+◌, ◌≤◌, length};
+// Stores an argument of a call, by its kind. Each function answers the place behind the argument's word in its line, or that it is stored, unless
+// the word is malformed; numbers stand most significant octet first.
+ghost use Rattle.std.specs.Prelude.{◌≡◌, ◌+◌, ◌≤◌, length, IfSome};
 
-use text::put::append;
-use text::values::{Digits, Number, decimal, digits_at, name_start, word_octets};
+use crate::calls::Kind;
+use text::put::OctetWriter;
+use text::values::{Digits, decimal, digits_at, name_start, word_octets};
 use text::words::{ends_at, word_end};
 
-// The place behind the argument, and whether the word is as it must be.
-#[derive(Clone, Copy)]
-pub struct Stored {
-    pub end: usize,
-    pub good: bool,
-}
-
-// The same, and the place behind the argument in its line.
-#[derive(Clone, Copy)]
-pub struct Argument {
-    pub from: usize,
-    pub end: usize,
-    pub good: bool,
-}
-
-fn malformed() -> Stored
-    ensures { result.end ≤ 0 }
-{
-    Stored {
-        end: 0,
-        good: false,
-    }
-}
-
-// Stores the eight octets of a number.
-fn put_wide(number: u64, call: &mut [u8], at: usize)
-    requires { at + 8 ≤ length call.old }
-{
-    let mut rest = number;
-    let mut i: usize = 0;
-    while i < 8 {
-        call[at + i] = ((rest >> 56) % 256) as u8;
-        rest = rest << 8;
-        i += 1;
-    }
-}
-
-// Stores a number of n octets. Eight are always written, since that is one store: what the record has next takes the place of those
-// behind the number.
-fn put_value(number: u64, n: usize, call: &mut [u8], at: usize) -> Stored
-    requires le_n { (1 ≤ n) × (n ≤ 8) }
-    requires at_in_bounds { at ≤ length call.old }
-    ensures { result.end ≤ length call.new }
+// Stores a number of n octets. Eight are always written, since that is one store: what is put next takes the place of those behind the number.
+fn store_value(number: u64, n: usize, arguments: &mut OctetWriter) -> Option<()>
+    requires { (1 ≤ n) × (n ≤ 8) }
+    ensures { length arguments.new.octets.now ≡ length arguments.old.octets.now }
 {
     let free = 64 - 8 * n;
     let wide = number << free;
-    if wide >> free != number {
-        return malformed();
+    if wide >> free != number || arguments.room() < 8 {
+        return None;
     }
-    if call.len() - at < 8 {
-        return malformed();
-    }
-    put_wide(wide, call, at);
-    Stored {
-        end: at + n,
-        good: true,
-    }
+    let at = arguments.end;
+    arguments.octets[at..at + 8].copy_from_slice(&wide.to_be_bytes());
+    arguments.end = at + n;
+    Some(())
 }
 
-// A number of n octets in a word of 20 digits or more.
-fn store_long_number(word: &[u8], n: usize, call: &mut [u8], at: usize) -> Stored
-    requires le_n { (1 ≤ n) × (n ≤ 8) }
-    requires at_in_bounds { at ≤ length call.old }
-    ensures { result.end ≤ length call.new }
+// The number in the digits that were read between two places of a line.
+fn digits_value(line: &[u8], word: usize, read: Digits) -> Option<u64>
+    requires { (word ≤ read.end) × (read.end ≤ length line.now) }
 {
-    let Number::Value(number) = decimal(word) else {
-        return malformed();
-    };
-    put_value(number, n, call, at)
-}
-
-// A number of n octets, from the digits between two places of a line.
-fn store_digits(
-    line: &[u8],
-    word: usize,
-    read: Digits,
-    n: usize,
-    call: &mut [u8],
-    at: usize,
-) -> Stored
-    requires word_le_end { (word ≤ read.end) × (read.end ≤ length line.now) }
-    requires le_n { (1 ≤ n) × (n ≤ 8) }
-    requires at_in_bounds { at ≤ length call.old }
-    ensures { result.end ≤ length call.new }
-{
-    let end = read.end;
-    if end == word {
-        return malformed();
+    let digits = read.end - word;
+    if digits == 0 || !ends_at(line, read.end) {
+        return None;
     }
-    if !ends_at(line, end) {
-        return malformed();
+    if digits > 19 {
+        return decimal(&line[word..read.end]);
     }
-    if end - word > 19 {
-        return store_long_number(&line[word..end], n, call, at);
-    }
-    put_value(read.value, n, call, at)
+    Some(read.value)
 }
 
 // A number of n octets, whose word begins at a place of a line.
-fn store_number(line: &[u8], word: usize, n: usize, call: &mut [u8], at: usize) -> Argument
+fn store_number(line: &[u8], word: usize, n: usize, arguments: &mut OctetWriter) -> Option<usize>
     requires word_in_bounds { word ≤ length line.now }
-    requires le_n { (1 ≤ n) × (n ≤ 8) }
-    requires at_in_bounds { at ≤ length call.old }
-    ensures { (result.from ≤ length line.now) × (result.end ≤ length call.new) }
+    requires n_is_width { (1 ≤ n) × (n ≤ 8) }
+    ensures place { IfSome result (λ from. from ≤ length line.now) }
+    ensures same_length { length arguments.new.octets.now ≡ length arguments.old.octets.now }
 {
     let read = digits_at(line, word);
-    let stored = store_digits(line, word, read, n, call, at);
-    Argument {
-        from: read.end,
-        end: stored.end,
-        good: stored.good,
-    }
+    let number = digits_value(line, word, read)?;
+    store_value(number, n, arguments)?;
+    Some(read.end)
 }
 
 // A flag, as the octet 0 or 1.
-fn store_flag(word: &[u8], call: &mut [u8], at: usize) -> Stored
-    requires { at ≤ length call.old }
-    ensures { result.end ≤ length call.new }
+fn store_flag(word: &[u8], arguments: &mut OctetWriter) -> Option<()>
+    ensures { length arguments.new.octets.now ≡ length arguments.old.octets.now }
 {
-    if word.len() != 1 {
-        return malformed();
+    match word {
+        b"0" => arguments.append(&[0]),
+        b"1" => arguments.append(&[1]),
+        _ => return None,
     }
-    let digit = word[0] ^ 48;
-    if digit > 1 {
-        return malformed();
-    }
-    Stored {
-        end: append(call, at, &[digit]),
-        good: true,
-    }
+    Some(())
+}
+
+// Octets, as many as there are; answers how many.
+fn store_octets(word: &[u8], arguments: &mut OctetWriter) -> Option<usize>
+    ensures { length arguments.new.octets.now ≡ length arguments.old.octets.now }
+{
+    let at = arguments.end;
+    let count = word_octets(word, &mut arguments.octets[at..])?;
+    arguments.end = at + count;
+    Some(count)
 }
 
 // An address: six octets.
-fn store_address(word: &[u8], call: &mut [u8], at: usize) -> Stored
-    requires { at ≤ length call.old }
-    ensures { result.end ≤ length call.new }
+fn store_address(word: &[u8], arguments: &mut OctetWriter) -> Option<()>
+    ensures { length arguments.new.octets.now ≡ length arguments.old.octets.now }
 {
-    if call.len() - at < 6 {
-        return malformed();
-    }
-    let end = at + 6;
-    let read = word_octets(word, &mut call[at..end]);
-    if !read.good {
-        return malformed();
-    }
-    if read.count != 6 {
-        return malformed();
-    }
-    Stored {
-        end: end,
-        good: true,
+    if store_octets(word, arguments)? == 6 {
+        Some(())
+    } else {
+        None
     }
 }
 
 // The length that a name states before its octets, which begin at `start`; without one, how many they are.
-fn stated_len(word: &[u8], start: usize, count: usize) -> Number
+fn stated_len(word: &[u8], start: usize, count: usize) -> Option<u8>
     requires { start ≤ length word.now }
 {
     if start == 0 {
-        return Number::Value(count as u64);
+        return u8::try_from(count).ok();
     }
-    let end = start - 1;
-    decimal(&word[0..end])
+    u8::try_from(decimal(&word[..start - 1])?).ok()
 }
 
-// Clears the 64 octets from a place on.
-fn clear_name(call: &mut [u8], at: usize)
-    requires { at + 64 ≤ length call.old }
+// A name: its stated length, and 64 octets, of which those behind the name are 0.
+fn store_name(word: &[u8], arguments: &mut OctetWriter) -> Option<()>
+    ensures { length arguments.new.octets.now ≡ length arguments.old.octets.now }
 {
-    let mut i: usize = 0;
-    while i < 64 {
-        call[at + i] = 0;
-        i += 1;
+    if arguments.room() < 65 {
+        return None;
     }
-}
-
-// A name: its stated length, and 64 octets.
-fn store_name(word: &[u8], call: &mut [u8], at: usize) -> Stored
-    requires { at ≤ length call.old }
-    ensures { result.end ≤ length call.new }
-{
-    if call.len() - at < 65 {
-        return malformed();
-    }
-    let first = at + 1;
-    let end = at + 65;
-    clear_name(call, first);
+    let mut name = [0u8; 64];
     let start = name_start(word);
-    let read = word_octets(&word[start..], &mut call[first..end]);
-    if !read.good {
-        return malformed();
-    }
-    let Number::Value(len) = stated_len(word, start, read.count) else {
-        return malformed();
-    };
-    if len > 255 {
-        return malformed();
-    }
-    append(call, at, &[len as u8]);
-    Stored {
-        end: end,
-        good: true,
-    }
+    let count = word_octets(&word[start..], &mut name)?;
+    let len = stated_len(word, start, count)?;
+    arguments.append(&[len]);
+    arguments.append(&name);
+    Some(())
 }
 
-// Octets, as many as there are.
-fn store_octets(word: &[u8], call: &mut [u8], at: usize) -> Stored
-    requires { at ≤ length call.old }
-    ensures { result.end ≤ length call.new }
+// An argument of a kind that is no number's. Its word begins at a place of a line.
+fn store_word(kind: Kind, line: &[u8], at: usize, arguments: &mut OctetWriter) -> Option<usize>
+    requires { at ≤ length line.now }
+    ensures place { IfSome result (λ from. from ≤ length line.now) }
+    ensures same_length { length arguments.new.octets.now ≡ length arguments.old.octets.now }
 {
-    let read = word_octets(word, &mut call[at..]);
-    Stored {
-        end: at + read.count,
-        good: read.good,
+    let end = word_end(line, at);
+    let word = &line[at..end];
+    match kind {
+        Kind::Flag => store_flag(word, arguments)?,
+        Kind::Address => store_address(word, arguments)?,
+        Kind::Name => store_name(word, arguments)?,
+        _ => {
+            store_octets(word, arguments)?;
+        }
     }
+    Some(end)
 }
 
-// An argument of a kind that is no number's.
-fn store_word(kind: u8, word: &[u8], call: &mut [u8], at: usize) -> Stored
-    requires { at ≤ length call.old }
-    ensures { result.end ≤ length call.new }
+// An argument of a kind. Its word begins at a place of a line.
+pub fn store_argument(
+    kind: Kind,
+    line: &[u8],
+    word: usize,
+    arguments: &mut OctetWriter,
+) -> Option<usize>
+    requires { word ≤ length line.now }
+    ensures place { IfSome result (λ from. from ≤ length line.now) }
+    ensures same_length { length arguments.new.octets.now ≡ length arguments.old.octets.now }
 {
     match kind {
-        b'f' => store_flag(word, call, at),
-        b'm' => store_address(word, call, at),
-        b'n' => store_name(word, call, at),
-        _ => store_octets(word, call, at),
+        Kind::U8 => store_number(line, word, 1, arguments),
+        Kind::U16 => store_number(line, word, 2, arguments),
+        Kind::U32 => store_number(line, word, 4, arguments),
+        Kind::U64 => store_number(line, word, 8, arguments),
+        _ => store_word(kind, line, word, arguments),
     }
-}
-
-// The same, of the word that begins at a place of a line.
-fn store_next_word(kind: u8, line: &[u8], word: usize, call: &mut [u8], at: usize) -> Argument
-    requires word_in_bounds { word ≤ length line.now }
-    requires at_in_bounds { at ≤ length call.old }
-    ensures { (result.from ≤ length line.now) × (result.end ≤ length call.new) }
-{
-    let end = word_end(line, word);
-    let stored = store_word(kind, &line[word..end], call, at);
-    Argument {
-        from: end,
-        end: stored.end,
-        good: stored.good,
-    }
-}
-
-// How many octets a number of a kind has, 0 if the kind is no number's.
-fn number_octets(kind: u8) -> usize
-    ensures { result ≤ 8 }
-{
-    match kind {
-        b'1' => 1,
-        b'2' => 2,
-        b'4' => 4,
-        b'8' => 8,
-        _ => 0,
-    }
-}
-
-// An argument of a kind, which the table of calls has. Its word begins at a place of a line.
-pub fn store_argument(kind: u8, line: &[u8], word: usize, call: &mut [u8], at: usize) -> Argument
-    requires word_in_bounds { word ≤ length line.now }
-    requires at_in_bounds { at ≤ length call.old }
-    ensures { (result.from ≤ length line.now) × (result.end ≤ length call.new) }
-{
-    let n = number_octets(kind);
-    if n == 0 {
-        return store_next_word(kind, line, word, call, at);
-    }
-    store_number(line, word, n, call, at)
 }

@@ -1,93 +1,120 @@
-// Octets, numbers and flags put into a line or a record. Each function takes the place where it goes on, and answers the place behind what it put;
-// what there is no room for is not put.
-ghost use Rattle.std.specs.Prelude.{◌+◌, ◌*◌, ◌≤◌, length};
-ghost use Rattle.text.specs.Counts.{IsPrefixLen};
+// Octets, numbers and flags put into a line or into a call's arguments, behind what was put before. What there is no room for is not put.
+ghost use Rattle.std.specs.Prelude.{◌≡◌, ◌+◌, ◌*◌, ◌≤◌, length, take};
 
-use records::octets::put_octets;
-
-// Puts octets into the line as they are.
-pub fn append(line: &mut [u8], at: usize, octets: &[u8]) -> usize
-    requires { at ≤ length line.old }
-    ensures { IsPrefixLen result line.new }
-{
-    if octets.len() > line.len() - at {
-        return at;
-    }
-    put_octets(line, at, octets);
-    at + octets.len()
+// The octets that are put stand in a buffer that is lent, before `end`.
+#[derive(Drop)]
+pub struct OctetWriter<'a> {
+    pub octets: &'a mut [u8],
+    pub end: usize,
+    pub ghost in_bounds: { end ≤ length octets.now },
 }
 
-// Puts the decimal digits of a number other than 0, of which it has 20 at most.
-fn put_digits(line: &mut [u8], at: usize, number: u64) -> usize
-    requires { at ≤ length line.old }
-    ensures { IsPrefixLen result line.new }
-{
-    let mut digits = [0u8; 20];
-    let mut rest = number;
-    let mut first: usize = 20;
-    while first > 0 && rest > 0 {
-        first -= 1;
-        digits[first] = 48 + (rest % 10) as u8;
-        rest = rest / 10;
+impl<'a> OctetWriter<'a> {
+    // A writer at the start of a buffer.
+    pub fn new(octets: &'a mut [u8]) -> Self
+        ensures end { result.end ≡ 0 }
+        ensures octets { result.octets.now ≡ octets.old }
+    {
+        OctetWriter { octets, end: 0 }
     }
-    append(line, at, &digits[first..])
-}
 
-// Puts a word and a number's decimal digits. Most numbers have one.
-pub fn put_number(line: &mut [u8], at: usize, word: &[u8], number: u64) -> usize
-    requires { at ≤ length line.old }
-    ensures { IsPrefixLen result line.new }
-{
-    let start = append(line, at, word);
-    if number < 10 {
-        return append(line, start, &[48 + number as u8]);
+    // What was put.
+    pub fn written(&self) -> &[u8]
+        ensures { result.now ≡ take self.now.end self.now.octets.now }
+    {
+        &self.octets[..self.end]
     }
-    put_digits(line, start, number)
-}
 
-// Puts a word and 1 or 0.
-pub fn put_flag(line: &mut [u8], at: usize, word: &[u8], flag: bool) -> usize
-    requires { at ≤ length line.old }
-    ensures { IsPrefixLen result line.new }
-{
-    let start = append(line, at, word);
-    if flag {
-        return append(line, start, b"1");
+    // How many octets there is room for.
+    pub fn room(&self) -> usize
+        ensures { result + self.now.end ≡ length self.now.octets.now }
+    {
+        self.octets.len() - self.end
     }
-    append(line, start, b"0")
+
+    // Goes back to the start of the buffer.
+    pub fn clear(&mut self)
+        ensures end { self.new.end ≡ 0 }
+        ensures octets { self.new.octets.now ≡ self.old.octets.now }
+    {
+        self.end = 0;
+    }
+
+    // Puts octets as they are.
+    pub fn append(&mut self, octets: &[u8])
+        ensures { length self.new.octets.now ≡ length self.old.octets.now }
+    {
+        if octets.len() > self.room() {
+            return;
+        }
+        let end = self.end + octets.len();
+        self.octets[self.end..end].copy_from_slice(octets);
+        self.end = end;
+    }
+
+    // Puts the decimal digits of a number other than 0, of which it has 20 at most.
+    fn put_digits(&mut self, number: u64)
+        ensures { length self.new.octets.now ≡ length self.old.octets.now }
+    {
+        let mut digits = [0u8; 20];
+        let mut rest = number;
+        let mut first = 20;
+        for i in (0..20).rev() {
+            if rest == 0 {
+                break;
+            }
+            digits[i] = b'0' + (rest % 10) as u8;
+            rest /= 10;
+            first = i;
+        }
+        self.append(&digits[first..]);
+    }
+
+    // Puts a word and a number's decimal digits. Most numbers have one.
+    pub fn put_number(&mut self, word: &[u8], number: u64)
+        ensures { length self.new.octets.now ≡ length self.old.octets.now }
+    {
+        self.append(word);
+        if number < 10 {
+            self.append(&[b'0' + number as u8]);
+        } else {
+            self.put_digits(number);
+        }
+    }
+
+    // Puts a word and 1 or 0.
+    pub fn put_flag(&mut self, word: &[u8], flag: bool)
+        ensures { length self.new.octets.now ≡ length self.old.octets.now }
+    {
+        self.append(word);
+        self.append(if flag { b"1" } else { b"0" });
+    }
+
+    // Puts a space and each octet as two hexadecimal digits.
+    pub fn put_hex(&mut self, octets: &[u8])
+        ensures { length self.new.octets.now ≡ length self.old.octets.now }
+    {
+        self.append(b" ");
+        if octets.len() > self.room() / 2 {
+            return;
+        }
+        let end = self.end + 2 * octets.len();
+        write_hex(octets, &mut self.octets[self.end..end]);
+        self.end = end;
+    }
 }
 
 // The hexadecimal digit of a number below 16.
-fn hex_digit(n: u8) -> u8 {
-    match n {
-        0..=9 => 48 + n,
-        10..=15 => 87 + n,
-        _ => b'?',
-    }
+fn hex_digit(n: u8) -> u8
+    requires { n ≤ 15 }
+{
+    if n < 10 { b'0' + n } else { b'a' - 10 + n }
 }
 
-// Puts each octet as two digits, for all of which the line has room.
-fn put_all_hex(line: &mut [u8], at: usize, octets: &[u8]) -> usize
-    requires { at + 2 * length octets.now ≤ length line.old }
-    ensures { IsPrefixLen result line.new }
-{
-    let mut i: usize = 0;
-    while i < octets.len() {
-        line[at + 2 * i] = hex_digit(octets[i] / 16);
-        line[at + 2 * i + 1] = hex_digit(octets[i] % 16);
-        i += 1;
+// Writes two digits for each octet.
+fn write_hex(octets: &[u8], digits: &mut [u8]) {
+    for (pair, octet) in digits.chunks_exact_mut(2).zip(octets) {
+        pair[0] = hex_digit(*octet / 16);
+        pair[1] = hex_digit(*octet % 16);
     }
-    at + 2 * i
-}
-
-// Puts a space and each octet as two digits.
-pub fn put_hex(line: &mut [u8], at: usize, octets: &[u8]) -> usize
-    requires { at ≤ length line.old }
-    ensures { IsPrefixLen result line.new }
-{
-    let start = append(line, at, b" ");
-    if octets.len() > (line.len() - start) / 2 {
-        return start;
-    }
-    put_all_hex(line, start, octets)
 }

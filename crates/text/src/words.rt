@@ -1,11 +1,9 @@
 // The words of a line, which spaces, tabs and carriage returns separate. Each function answers a place in the line.
-ghost use Rattle.std.specs.Prelude.{◌+◌, ◌≤◌, length};
+ghost use Rattle.std.specs.Prelude.{◌≤◌, length};
 
+// Not by `matches!`, which is a jump for each octet: 16 octets are tested at once.
 fn is_separator(octet: u8) -> bool {
-    match octet {
-        b' ' | b'\t' | b'\r' => true,
-        _ => false,
-    }
+    (octet == b' ') | (octet == b'\t') | (octet == b'\r')
 }
 
 // Where the next word begins, from a place on; the line's end if there is none.
@@ -13,25 +11,19 @@ pub fn word_start(line: &[u8], at: usize) -> usize
     requires { at ≤ length line.now }
     ensures { result ≤ length line.now }
 {
-    let mut i = at;
-    while i < line.len() && is_separator(line[i]) {
-        i += 1;
+    for i in at..line.len() {
+        if !is_separator(line[i]) {
+            return i;
+        }
     }
-    i
+    line.len()
 }
 
-// Whether there is a separator in the 16 octets from a place on. All are looked at, so that they can be at once.
-fn has_separator(line: &[u8], at: usize) -> bool
-    requires { at + 16 ≤ length line.now }
-{
-    let mut found = false;
-    let mut i: usize = 0;
-    while i < 16 {
-        let octet = line[at + i];
-        found = found | (octet == b' ') | (octet == b'\t') | (octet == b'\r');
-        i += 1;
-    }
-    found
+// Whether there is a separator in a block. All octets are looked at, so that they can be at once.
+fn has_separator(block: &[u8; 16]) -> bool {
+    block
+        .iter()
+        .fold(false, |found, octet| found | is_separator(*octet))
 }
 
 // The first place from one on after which 16 octets have a separator, or the line has fewer.
@@ -39,11 +31,12 @@ fn behind_blocks(line: &[u8], at: usize) -> usize
     requires { at ≤ length line.now }
     ensures { (at ≤ result) × (result ≤ length line.now) }
 {
-    let mut i = at;
-    while line.len() - i >= 16 && !has_separator(line, i) {
-        i += 16;
-    }
-    i
+    let (blocks, _) = line[at..].as_chunks::<16>();
+    at + 16
+        * blocks
+            .iter()
+            .take_while(|block| !has_separator(*block))
+            .count()
 }
 
 // Where the word that begins at a place ends, octet by octet: the way for a short word.
@@ -51,11 +44,12 @@ pub fn short_word_end(line: &[u8], at: usize) -> usize
     requires { at ≤ length line.now }
     ensures { (at ≤ result) × (result ≤ length line.now) }
 {
-    let mut i = at;
-    while i < line.len() && !is_separator(line[i]) {
-        i += 1;
+    for i in at..line.len() {
+        if is_separator(line[i]) {
+            return i;
+        }
     }
-    i
+    line.len()
 }
 
 // Where the word that begins at a place ends. Most words are short: a long one is searched in blocks behind its first 16 octets.
@@ -63,20 +57,15 @@ pub fn word_end(line: &[u8], at: usize) -> usize
     requires { at ≤ length line.now }
     ensures { (at ≤ result) × (result ≤ length line.now) }
 {
-    let mut i = at;
-    while i < line.len() && !is_separator(line[i]) {
-        if i - at == 16 {
-            return short_word_end(line, behind_blocks(line, i));
-        }
-        i += 1;
+    let long = line.len().min(at.saturating_add(16));
+    let end = short_word_end(&line[..long], at);
+    if end < long || long == line.len() {
+        return end;
     }
-    i
+    short_word_end(line, behind_blocks(line, long))
 }
 
 // Whether a word that reaches a place ends there.
 pub fn ends_at(line: &[u8], at: usize) -> bool {
-    if at >= line.len() {
-        return true;
-    }
-    is_separator(line[at])
+    line.get(at).is_none_or(|octet| is_separator(*octet))
 }
