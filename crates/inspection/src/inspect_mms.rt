@@ -5,9 +5,9 @@ ghost use Rattle.monitor.specs.Monitor.{monitor_of};
 ghost use Rattle.monitor.specs.Settings.{strict_mode};
 ghost use Rattle.inspection.specs.InspectMms.{control_key, full_findings, releases, mms_control, over_rate, mms_rate, mms_applying, masked};
 ghost use Rattle.inspection.specs.InspectMms.{mms_rule, mms_checks, checked_mms, inspect_mms};
-ghost use Rattle.inspection.specs.Report.{findings_in, alerts_of};
+ghost use Rattle.inspection.specs.Report.{findings_in};
 
-use crate::report::{AlertSource, CheckAlert, CheckAlerts, one_alert, report_on};
+use crate::report::{AlertSource, CheckAlert, one_alert, report_on};
 use checks::keys::reservation_key;
 use checks::mms_rule::has_bit;
 use monitor::parts::{
@@ -114,21 +114,21 @@ fn control_key(domain: &[u8; 64], n: MmsNumbers) -> [u64; 10]
 }
 
 // The control action of a frame, by the service and not its raw number: SelectControl 11 reserves the control block that it names.
-fn mms_control(m: &mut [u64; WORDS], domain: &[u8; 64], n: MmsNumbers) -> CheckAlerts
-    ensures { record { monitor = monitor_of m.new; answer = alerts_of result }
+fn mms_control(m: &mut [u64; WORDS], domain: &[u8; 64], n: MmsNumbers) -> Option<CheckAlert>
+    ensures { record { monitor = monitor_of m.new; answer = findings_in result }
         ≡ mms_control (record { domain = domain.entry.now; numbers = n }) (monitor_of m.old) }
 {
     if n.service == 11 {
         let key = control_key(domain, n);
         let taken = reserve_cb_on(m, &key, n.client_id);
-        return one_alert(full_alert(taken));
+        return full_alert(taken);
     }
     if releases(n.service) {
         let key = control_key(domain, n);
         release_cb_on(m, &key, n.client_id);
-        return one_alert(None);
+        return None;
     }
-    one_alert(None)
+    None
 }
 
 // Whether a request is over the rate of its rule; a rate of 0 is no limit.
@@ -142,30 +142,30 @@ fn over_rate(m: &mut [u64; WORDS], invoke_id: u32, rate: u16, now_us: u64) -> bo
 }
 
 // 7: the bucket of a rule with a rate, then the control action.
-fn mms_rate(m: &mut [u64; WORDS], domain: &[u8; 64], n: MmsNumbers, rate: u16) -> CheckAlerts
-    ensures { record { monitor = monitor_of m.new; answer = alerts_of result }
+fn mms_rate(m: &mut [u64; WORDS], domain: &[u8; 64], n: MmsNumbers, rate: u16) -> Option<CheckAlert>
+    ensures { record { monitor = monitor_of m.new; answer = findings_in result }
         ≡ mms_rate (record { domain = domain.entry.now; numbers = n }) rate (monitor_of m.old) }
 {
     if over_rate(m, n.invoke_id, rate, n.timestamp_us) {
-        return one_alert(Some(CheckAlert::OverRate));
+        return Some(CheckAlert::OverRate);
     }
     mms_control(m, domain, n)
 }
 
 // The checks of an MMS frame.
-pub fn mms_checks_on(m: &mut [u64; WORDS], domain: &[u8; 64], n: MmsNumbers) -> CheckAlerts
-    ensures { record { monitor = monitor_of m.new; answer = alerts_of result }
+pub fn mms_checks_on(m: &mut [u64; WORDS], domain: &[u8; 64], n: MmsNumbers) -> Option<CheckAlert>
+    ensures { record { monitor = monitor_of m.new; answer = findings_in result }
         ≡ mms_checks (monitor_of m.old) (record { domain = domain.entry.now; numbers = n }) }
 {
     match mms_rule(m, n.raw_service_type, n.write) {
-        Err(alert) => one_alert(Some(alert)),
+        Err(alert) => Some(alert),
         Ok(rate) => mms_rate(m, domain, n, rate),
     }
 }
 
 // Counts and checks an MMS frame.
-fn check_mms_on(m: &mut [u64; WORDS], frame: MmsFrame) -> CheckAlerts
-    ensures { record { monitor = monitor_of m.new; answer = alerts_of result } ≡ checked_mms (monitor_of m.old) frame }
+fn check_mms_on(m: &mut [u64; WORDS], frame: MmsFrame) -> Option<CheckAlert>
+    ensures { record { monitor = monitor_of m.new; answer = findings_in result } ≡ checked_mms (monitor_of m.old) frame }
 {
     let service = frame.service_type;
     let n = MmsNumbers {
@@ -186,10 +186,10 @@ fn check_mms_on(m: &mut [u64; WORDS], frame: MmsFrame) -> CheckAlerts
 pub fn inspect_mms_on(m: &mut [u64; WORDS], frame: MmsFrame) -> InspectResult
     ensures { record { monitor = monitor_of m.new; answer = result } ≡ inspect_mms (monitor_of m.old) frame }
 {
-    let alerts = check_mms_on(m, frame);
+    let alert = check_mms_on(m, frame);
     report_on(
         m,
-        alerts,
+        one_alert(alert),
         AlertSource {
             source_type: SOURCE_IEC61850_MMS,
             source_id: frame.invoke_id,

@@ -207,30 +207,25 @@ fn allowed_octet(octet: u8, found: Finding) -> u8
     }
 }
 
-// A verdict with one more alert in the next of its three places, and the counters after it. One with three alerts is left: no inspection
-// has a fourth.
-fn note_alert(n: Noted, alert: CheckAlert) -> Noted
-    ensures { result ≡ alert_noted n (finding_of alert) }
-{
-    let mut verdict = n.verdict;
-    let counters = n.counters;
-    let alert_count = verdict[1];
-    let count = alert_count as usize;
-    if count >= 3 {
-        return n;
-    }
-    let found = alert.finding();
-    let at = 2 + 2 * count;
-    verdict[0] = allowed_octet(verdict[0], found);
-    verdict[1] = alert_count + 1;
-    verdict[at] = found.code.code();
-    verdict[at + 1] = found.severity.number();
-    Noted {
-        verdict,
-        counters: AlertCounters {
-            next_alert_id: wrapping_increment(counters.next_alert_id),
-            total_alerts: saturating_increment(counters.total_alerts),
-        },
+impl Noted {
+    // Notes one more alert in the next of the verdict's three places, and counts it. A verdict with three alerts is left: no inspection has a
+    // fourth.
+    fn note_alert(&mut self, alert: CheckAlert)
+        ensures { self.new ≡ alert_noted self.old (finding_of alert) }
+    {
+        let alert_count = self.verdict[1];
+        let count = alert_count as usize;
+        if count >= 3 {
+            return;
+        }
+        let found = alert.finding();
+        let at = 2 + 2 * count;
+        self.verdict[0] = allowed_octet(self.verdict[0], found);
+        self.verdict[1] = alert_count + 1;
+        self.verdict[at] = found.code.code();
+        self.verdict[at + 1] = found.severity.number();
+        self.counters.next_alert_id = wrapping_increment(self.counters.next_alert_id);
+        self.counters.total_alerts = saturating_increment(self.counters.total_alerts);
     }
 }
 
@@ -244,7 +239,7 @@ fn verdict_of(counters: AlertCounters, alerts: CheckAlerts) -> Noted
     };
     for found in alerts {
         if let Some(alert) = found {
-            out = note_alert(out, alert);
+            out.note_alert(alert);
         }
     }
     out

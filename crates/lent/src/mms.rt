@@ -2,12 +2,12 @@
 ghost use Rattle.std.specs.Prelude.{◌≡◌, length};
 ghost use Rattle.monitor.specs.Monitor.{monitor_of};
 ghost use Rattle.inspection.specs.InspectMms.{mms_read, checked_mms, inspect_mms};
-ghost use Rattle.inspection.specs.Report.{alerts_of, with_verdict};
+ghost use Rattle.inspection.specs.Report.{findings_in, with_verdict};
 ghost use Rattle.lent.specs.Mms.{mms_frame_of};
 
 use crate::octets::{octets_at, u32_at, u64_at};
 use inspection::inspect_mms::{MmsNumbers, mms_checks_on};
-use inspection::report::{CheckAlerts, verdict_on};
+use inspection::report::{CheckAlert, one_alert, verdict_on};
 use monitor::parts::WORDS;
 use monitor::totals::{MMS_TOTAL_INSPECTED, count_frame_on};
 use records::service::MmsServiceType;
@@ -31,9 +31,9 @@ fn mms_numbers(o: &[u8]) -> MmsNumbers
 }
 
 // Counts and checks a frame.
-fn check_mms_lent(m: &mut [u64; WORDS], o: &[u8]) -> CheckAlerts
+fn check_mms_lent(m: &mut [u64; WORDS], o: &[u8]) -> Option<CheckAlert>
     requires { length o.now ≡ 88 }
-    ensures { record { monitor = monitor_of m.new; answer = alerts_of result }
+    ensures { record { monitor = monitor_of m.new; answer = findings_in result }
         ≡ checked_mms (monitor_of m.old) (mms_frame_of o.now) }
 {
     let domain = octets_at(o, 2);
@@ -47,6 +47,6 @@ pub fn mms_verdict_lent(m: &mut [u64; WORDS], octets: &[u8; 88]) -> [u8; 8]
     ensures { record { monitor = monitor_of m.new; answer = result }
         ≡ with_verdict (inspect_mms (monitor_of m.old) (mms_frame_of octets.now)) }
 {
-    let alerts = check_mms_lent(m, octets);
-    verdict_on(m, alerts)
+    let alert = check_mms_lent(m, octets);
+    verdict_on(m, one_alert(alert))
 }

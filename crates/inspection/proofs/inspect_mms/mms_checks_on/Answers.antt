@@ -1,4 +1,5 @@
 -- `mms_checks_on` meets its contract.
+use mathlib.Core.Path.{refl}
 use Rattle.monitor.specs.Monitor.{monitor_of}
 use Rattle.inspection.specs.InspectMms.{MmsRead, mms_rate, mms_checks}
 use Rattle.inspection.proofs.StageLaws.{rules_refuse, rules_permit}
@@ -9,7 +10,7 @@ unfolding mms_checks
 returns-in-Err c = let a = c.args in
     let m = monitor_of a.m.now in
     let f : MmsRead = record { domain = a.domain.now; numbers = a.n } in
-    rules_refuse m (λ rate. mms_rate f rate m) c.mms_rule.ensures _ c.in-Err.is c.one_alert.ensures
+    rules_refuse m (λ rate. mms_rate f rate m) c.mms_rule.ensures _ c.in-Err.is refl
 
 pub returns-in-Ok : goal.returns-in-Ok
 unfolding mms_checks
