@@ -45,7 +45,8 @@ use Rattle.inspection.specs.InspectGoose.{goose_unknown, control_block, goose_re
 use Rattle.inspection.specs.InspectMms.{MmsRead, control_key, full_findings, mms_reserved, releases, mms_control, refused_on, over_rate, unless_over, mms_rate}
 use Rattle.inspection.specs.InspectMms.{mms_read, mms_read_with, mms_checks, checked_mms}
 use Rattle.inspection.specs.InspectSv.{rate_findings, count_findings, sv_count, sv_clock, sv_time_field, sv_matched, sv_rule}
-use Rattle.inspection.specs.InspectSv.{svid_of, dataset_of, sv_read, sv_read_by, sv_numbers_by, sv_binding, checked_sv, inspect_sv, parsed_inspected, inspect_raw_sv}
+use Rattle.inspection.specs.InspectSv.{svid_of, dataset_of, sv_read, sv_read_by, sv_numbers_by, sv_binding, checked_sv}
+use Rattle.inspection.specs.InspectSv.{inspect_sv, parsed_inspected, inspect_raw_sv}
 use Rattle.inspection.specs.declared.report.Finding.{Finding}
 use Rattle.inspection.specs.Report.{Checked, findings_of, clock_findings, ended, unless_hijacked, permitted, with_allowed}
 

@@ -121,12 +121,8 @@ module _ (m : Monitor) (octets : List ℕ) (time : ℕ) {found : Option Header} 
   header_refused q r = raw_refused m refl r ∙ header_inspected q
 
   pub header_found :
-      {h : Header} → found ≡ Some h → {apdu : List ℕ} → apdu ≡ take (h.apdu.end - h.apdu.start) (drop h.apdu.start octets)
-      → {after : Monitor} (r : Result (List ℕ) VsError) {v : RawVerdict} → v ≡ answered_verdict r
-      → record { monitor = after; answer = answered_verdict r } ≡ with_raw_verdict (parsed_inspected m (apdu_frame apdu h.src_mac time))
+      {h : Header} → found ≡ Some h → {after : Monitor} (r : Result (List ℕ) VsError) {v : RawVerdict} → v ≡ answered_verdict r
+      → record { monitor = after; answer = answered_verdict r }
+      ≡ with_raw_verdict (parsed_inspected m (apdu_frame (take (h.apdu.end - h.apdu.start) (drop h.apdu.start octets)) h.src_mac time))
       → record { monitor = after; answer = v } ≡ with_raw_verdict (inspect_raw_sv m octets time)
-  header_found {h} q a {after} r e w =
-      (λ i. record { monitor = after; answer = e i })
-      ∙ w
-      ∙ ap (λ (l : List ℕ). with_raw_verdict (parsed_inspected m (apdu_frame l h.src_mac time))) a
-      ∙ header_inspected q
+  header_found q {after} r e w = (λ i. record { monitor = after; answer = e i }) ∙ w ∙ header_inspected q

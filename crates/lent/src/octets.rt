@@ -13,7 +13,7 @@ pub fn octets_at<const N: usize>(octets: &[u8], at: usize) -> [u8; N]
     out
 }
 
-// The number in two octets.
+// The number in two octets. These three stay apart: each is one call of its type, which a trait over the three would only wrap.
 pub fn u16_at(octets: &[u8], at: usize) -> u16
     requires { at + 2 ≤ length octets.now }
     ensures { result ≡ number16 octets.now at }

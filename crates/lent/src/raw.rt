@@ -88,7 +88,7 @@ pub fn raw_sv_verdict_lent(m: &mut [u64; WORDS], bytes: &[u8]) -> RawVerdict
     let Some(found) = ethernet_header(bytes, ETHERTYPE_SV) else {
         return refused_verdict(VsError::InvalidInput);
     };
-    let apdu = content(bytes, found.apdu.start, found.apdu.end - found.apdu.start);
+    let apdu = &bytes[found.apdu.start..found.apdu.end];
     match apdu_verdict(m, apdu, found.src_mac) {
         Ok(verdict) => RawVerdict {
             answer: Ok(()),

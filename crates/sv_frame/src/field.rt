@@ -52,7 +52,7 @@ pub fn overlay(name: &mut [u8; 64], content: &[u8])
     put_first(name, 0, content, name_len(content) as usize);
 }
 
-// The seconds that a time of 4 octets or more gives, or those before.
+// The seconds that a time of 4 octets or more gives, or those before. As one function with `fraction_or` it would take three numbers for the same line.
 pub fn seconds_or(old: u32, time: &[u8]) -> u32
     ensures { result ≡ seconds_or old time.now }
 {

@@ -61,6 +61,7 @@ fn put_place(out: &mut SvPlaces, tag: u8, place: Part, field: &[u8])
 }
 
 // The places of an ASDU's fields, one after the other: the frame that they give, read where it stands. Without a count it is InvalidInput.
+// It needs the place of each element, so it is no walk of `read_fields`, whose reader holds no place (01, the element reader).
 pub fn sv_places(asdu: &[u8]) -> Result<SvPlaces, VsError>
     ensures { result ≡ places_of asdu.now }
 {

@@ -24,7 +24,7 @@ pub fn read_fields(asdu: &[u8], frame: SvFrame) -> Result<SvFrame, VsError>
         let Some(element) = front else {
             return Err(VsError::InvalidInput);
         };
-        let field = content(reader.unread(), element.start, element.len);
+        let field = &reader.unread()[element.start..element.end];
         if !field_fits(element.tag, field) {
             return Err(VsError::InvalidInput);
         }
@@ -80,6 +80,6 @@ pub fn parse_sv(bytes: &[u8], timestamp_us: u64) -> Result<SvFrame, VsError>
     let Some(found) = ethernet_header(bytes, ETHERTYPE_SV) else {
         return Err(VsError::InvalidInput);
     };
-    let apdu = content(bytes, found.apdu.start, found.apdu.end - found.apdu.start);
+    let apdu = &bytes[found.apdu.start..found.apdu.end];
     decode_sv_apdu(apdu, found.src_mac, timestamp_us)
 }

@@ -44,10 +44,11 @@ module _ (type : ℕ) (octets : List ℕ) {at : ℕ} (e : at ≡ appid_at octets
       unfolding apdu_of
       apdu_is h g = rw (← e, le-leb (at + 8) (length octets) there, ← f, eq-eqb found type same, ← l, le-leb 8 len h, le-leb (at + len) (length octets) g)
 
--- an APDU does not end before it starts
-pub apdu_order : (type : ℕ) (octets : List ℕ) {h : Header} → header type octets ≡ Some h → h.apdu.start ≤ h.apdu.end
+-- an APDU does not end before it starts, and ends within the frame
+pub apdu_within :
+    (type : ℕ) (octets : List ℕ) {h : Header} → header type octets ≡ Some h → (h.apdu.start ≤ h.apdu.end) × (h.apdu.end ≤ length octets)
 unfolding header apdu_of
-apdu_order type octets {h} e = inner (apdu_of type octets) refl e
+apdu_within type octets {h} e = inner (apdu_of type octets) refl e
   where
     at : ℕ
     at = appid_at octets
@@ -55,18 +56,21 @@ apdu_order type octets {h} e = inner (apdu_of type octets) refl e
     len : ℕ
     len = pair_at octets (at + 2)
 
-    from : (a b c d : Bool) (x : Apdu) → leb 8 len ≡ c
-        → cond (a && b && c && d) (Some (record { start = at + 8; end = at + len })) None ≡ Some x → x.start ≤ x.end
-    from true true true true x q p = let s : at + 8 ≡ x.start = cc in let f : at + len ≡ x.end = cc in omega (arith, leb-true 8 len q)
-    from true true true false x q p = absurd (cc)
-    from true true false d x q p = absurd (cc)
-    from true false c d x q p = absurd (cc)
-    from false b c d x q p = absurd (cc)
+    from : (a b c d : Bool) (x : Apdu) → leb 8 len ≡ c → leb (at + len) (length octets) ≡ d
+        → cond (a && b && c && d) (Some (record { start = at + 8; end = at + len })) None ≡ Some x → (x.start ≤ x.end) × (x.end ≤ length octets)
+    from true true true true x q r p =
+        let s : at + 8 ≡ x.start = cc in
+        let f : at + len ≡ x.end = cc in
+        (omega (arith, leb-true 8 len q), omega (arith, leb-true (at + len) (length octets) r))
+    from true true true false x q r p = absurd (cc)
+    from true true false d x q r p = absurd (cc)
+    from true false c d x q r p = absurd (cc)
+    from false b c d x q r p = absurd (cc)
 
-    inner : (x : Option Apdu) → apdu_of type octets ≡ x → with_source octets x ≡ Some h → h.apdu.start ≤ h.apdu.end
+    inner : (x : Option Apdu) → apdu_of type octets ≡ x → with_source octets x ≡ Some h → (h.apdu.start ≤ h.apdu.end) × (h.apdu.end ≤ length octets)
     inner (Some x) q p =
         let s : x.start ≡ h.apdu.start = cc in
         let f : x.end ≡ h.apdu.end = cc in
-        let w = from (leb (at + 8) (length octets)) (eqb (pair_at octets (at - 2)) type) (leb 8 len) (leb (at + len) (length octets)) x refl q in
-        omega arith
+        let w = from (leb (at + 8) (length octets)) (eqb (pair_at octets (at - 2)) type) (leb 8 len) (leb (at + len) (length octets)) x refl refl q in
+        (omega (arith, w.0), omega (arith, w.1))
     inner None q p = absurd (cc)

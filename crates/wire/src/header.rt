@@ -59,7 +59,7 @@ pub fn apdu_of(bytes: &[u8], ethertype: u16) -> Option<Apdu>
     })
 }
 
-// The source address, octets 6 to 11.
+// The source address, octets 6 to 11; as an array::from_fn over octet_at the proof did not close.
 pub fn source_of(bytes: &[u8]) -> [u8; 6]
     ensures { result ≡ source_of bytes.now }
 {

@@ -10,8 +10,7 @@ pub fn pair_at(bytes: &[u8], i: u8) -> u16
     ensures { result ≡ pair_at bytes.now i }
 {
     let at = i as usize;
-    let high = octet_at(bytes, at) as u16;
-    high * 256 + (octet_at(bytes, at + 1) as u16)
+    u16::from_be_bytes([octet_at(bytes, at), octet_at(bytes, at + 1)])
 }
 
 // The number in up to four octets; what follows them does not count.

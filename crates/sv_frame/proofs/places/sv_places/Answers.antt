@@ -46,7 +46,9 @@ slice_bounds-field-end c = let l = c.loop-at in
     omega (arith, w.1, w.2)
 
 -- what stands from the content's start to the element's end is the content
-content : (asdu : List ℕ) (at start len end : ℕ) → start + len ≡ end → take (at + end - (at + start)) (drop (at + start) asdu) ≡ take len (drop (at + start) asdu)
+content :
+    (asdu : List ℕ) (at start len end : ℕ) → start + len ≡ end
+    → take (at + end - (at + start)) (drop (at + start) asdu) ≡ take len (drop (at + start) asdu)
 content asdu at start len end e = let n : at + end - (at + start) ≡ len = omega arith in rw n
 
 pub returns-then-not-field_fits : goal.returns-then-not-field_fits
