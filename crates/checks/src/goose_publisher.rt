@@ -1,5 +1,7 @@
 // GOOSE publishers, carried over from industrial/iec61850-monitor/src/lib.rs of craton-shield a31d888527 (Apache-2.0) and changed: addresses,
 // the key columns of a table by name, and the count behind them.
+#![tactic(auto, unfolding(crate::specs::GoosePublisher::goose_fits_at, crate::specs::GoosePublisher::with_goose_publisher))]
+
 ghost use Rattle.std.specs.Prelude.{◌≡◌, ◌≤◌, length};
 ghost use Rattle.checks.specs.GoosePublisher.{goose_fits_at, goose_publisher, with_goose_publisher, goose_added};
 

@@ -1,5 +1,7 @@
 // GOOSE streams, carried over from industrial/iec61850-monitor/src/lib.rs of craton-shield a31d888527 (Apache-2.0) and changed: a
 // table by name; no flag for a stream without numbers, since there is none.
+#![tactic(auto, unfolding(crate::specs::GooseSeq::replays, crate::specs::GooseSeq::outside_tolerance))]
+
 ghost use Rattle.std.specs.Prelude.{◌≡◌, min, ◌-◌, ◌^◌, ◌<◌, cond, option_map, length};
 ghost use Rattle.tables.specs.Place.{known_of};
 ghost use Rattle.checks.specs.GooseSeq.{numbers_of, numbers_at, replays, goose_replay, outside_tolerance, retx_checked, goose_checked};

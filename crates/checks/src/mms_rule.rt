@@ -1,5 +1,7 @@
 // MMS rules, carried over from industrial/iec61850-monitor/src/lib.rs of craton-shield a31d888527 (Apache-2.0) and changed: columns of
 // masks, read-only flags and rates, and the count behind them; no flag for a rule below the count, since it is always there.
+#![tactic(auto, using(crate::proofs::RuleLaws::flag_is), unfolding(crate::specs::MmsRule::has_bit, crate::specs::MmsRule::applies, crate::specs::MmsRule::with_mms_rule))]
+
 ghost use Rattle.std.specs.Prelude.{◌≡◌, ◌≤◌, length};
 ghost use Rattle.checks.specs.MmsRule.{has_bit, applies, first_rule, rule_read_only, rule_rate, with_mms_rule, mms_added};
 

@@ -1,5 +1,7 @@
 // Reservations of control blocks, carried over from industrial/iec61850-monitor/src/lib.rs of craton-shield a31d888527 (Apache-2.0) and
 // changed: a table by name, whose numbers are the kinds, 1 for GOOSE and 0 for SV. Entries are not aged: a slot in use has rank 0.
+#![tactic(auto, unfolding(crate::specs::Reservation::bound_at, crate::specs::Reservation::taken_at, crate::specs::Reservation::place_for, crate::specs::Reservation::reserved, crate::specs::Reservation::cb_checked, crate::specs::Reservation::released, crate::specs::Reservation::all_freed))]
+
 ghost use Rattle.std.specs.Prelude.{◌≡◌, ◌+◌, ◌≤◌, ◌<◌, length};
 ghost use Rattle.tables.specs.Packed.{packed};
 ghost use Rattle.checks.specs.Reservation.{bound_at, cb_checked, place_for, taken_at, reserved, owned_slot, freed_rank, all_freed, released};

@@ -1,5 +1,7 @@
 // SV publishers, carried over from industrial/iec61850-monitor/src/lib.rs of craton-shield a31d888527 (Apache-2.0) and changed: addresses,
 // the key columns of a table by name, rates, and the count behind them.
+#![tactic(auto, unfolding(crate::specs::SvPublisher::with_sv_publisher))]
+
 ghost use Rattle.std.specs.Prelude.{◌≡◌, ◌≤◌, length};
 ghost use Rattle.checks.specs.SvPublisher.{match_at, sv_publisher, publisher_rate, with_sv_publisher, sv_added};
 

@@ -1,5 +1,7 @@
 // SV streams, carried over from industrial/iec61850-monitor/src/lib.rs of craton-shield a31d888527 (Apache-2.0) and changed: a table by
 // name; no flag for a stream without a count, since there is none, and no time, which nothing reads.
+#![tactic(auto, unfolding(crate::specs::SvSeq::count_outcome, crate::specs::SvSeq::is_replay))]
+
 ghost use Rattle.std.specs.Prelude.{◌≡◌, length};
 ghost use Rattle.tables.specs.Place.{known_of};
 ghost use Rattle.checks.specs.SvSeq.{count_outcome, sv_outcome, outcome_number, is_replay, count_or, sv_checked};

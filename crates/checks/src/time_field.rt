@@ -1,5 +1,7 @@
 // Clocks, carried over from industrial/iec61850-monitor/src/lib.rs of craton-shield a31d888527 (Apache-2.0) and changed: a table by
 // number; no flag for a clock without a pair, since there is none.
+#![tactic(auto, unfolding(crate::specs::TimeField::has_clock, crate::specs::TimeField::earlier))]
+
 ghost use Rattle.std.specs.Prelude.{◌≡◌, option_map, length};
 ghost use Rattle.tables.specs.Place.{known_of};
 ghost use Rattle.checks.specs.TimeField.{pair_of, has_clock, clock_alert, time_checked};

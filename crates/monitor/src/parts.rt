@@ -1,5 +1,7 @@
 // The parts of the monitor in one array of 1148 words: each check and add call lends its part as a slice. A part as an array of its own would come as a
 // Result, whose other case would need an answer.
+#![tactic(auto, unfolding(crate::specs::Monitor::monitor_of))]
+
 ghost use Rattle.std.specs.Prelude.{◌≡◌};
 ghost use Rattle.monitor.specs.Monitor.{monitor_of};
 ghost use Rattle.monitor.specs.Parts.{sv_seq_on, goose_seq_on, time_field_on, rate_on, cb_on, reserved_on, released_on, mms_added_on, goose_added_on, sv_added_on};

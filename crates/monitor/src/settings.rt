@@ -1,5 +1,7 @@
 // Settings, carried over from industrial/iec61850-monitor/src/lib.rs of craton-shield a31d888527 (Apache-2.0) and changed: ten words, which the set
 // calls store in place.
+#![tactic(auto, unfolding(crate::specs::Settings::setting_set, crate::specs::Settings::set_mms_service_mask, crate::specs::Settings::set_mms_read_only, crate::specs::Settings::set_block_test_frames, crate::specs::Settings::set_sv_max_smp_cnt_gap, crate::specs::Settings::set_time_max_forward_jump))]
+
 ghost use Rattle.std.specs.Prelude.{◌≡◌, ◌<◌, min, ◌-◌, ◌^◌};
 ghost use Rattle.monitor.specs.Monitor.{monitor_of};
 ghost use Rattle.monitor.specs.Settings.{setting_set, set_mms_service_mask, set_mms_read_only, set_block_test_frames};

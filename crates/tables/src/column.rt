@@ -1,4 +1,6 @@
 // The words of a slot in the columns of single words, sixteen of them, one for each slot.
+#![tactic(auto, unfolding(crate::specs::Column::word_of, crate::specs::Column::word_set))]
+
 ghost use Rattle.std.specs.Prelude.{◌≡◌, ◌+◌, ◌≤◌, min, length};
 ghost use Rattle.tables.specs.Column.{word_of, word_set, zero_words};
 

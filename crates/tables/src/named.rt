@@ -1,4 +1,6 @@
 // Tables by name: ranks, sums, lengths, names of eight words each, values. A key is ten words (key.rt).
+#![tactic(auto, unfolding(crate::specs::Named::has_key, crate::specs::Named::key_stored))]
+
 ghost use Rattle.std.specs.Prelude.{◌≡◌, ◌+◌, ◌≤◌, length, slice_index};
 ghost use Rattle.records.specs.Octets.{agree, overwritten};
 ghost use Rattle.tables.specs.Named.{has_key, key_stored, named};

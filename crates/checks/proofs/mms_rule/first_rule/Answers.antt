@@ -1,12 +1,9 @@
 -- `first_rule` meets its contract.
-use Rattle.std.proofs.Common.{refl, ◌∙◌}
-use Rattle.records.proofs.SearchLaws.{reached_first, reached_end, reached_hit, reached_next}
+use Rattle.std.proofs.Common.{◌∙◌}
+use Rattle.records.proofs.SearchLaws.{reached_end, reached_hit, reached_next}
 use Rattle.checks.specs.MmsRule.{first_rule}
 use native.Mathlib.Omega.{arith}
 use Rattle.checks.proofs.mms_rule.first_rule.Goals as goal
-
-pub loop-i-init : goal.loop-i-init
-loop-i-init c = (c.rule_count-n.ensures, refl, reached_first)
 
 pub loop-i-preserved : goal.loop-i-preserved
 loop-i-preserved c = let l = c.loop-i in

@@ -1,11 +1,6 @@
 -- `store_mms_rule` meets its contract.
-use mathlib.Core.Path.{◌∙◌}
-use lib.ListN.{length-set}
 use Rattle.checks.proofs.RuleLaws.{flag_is, mms_stored}
 use Rattle.checks.proofs.mms_rule.store_mms_rule.Goals as goal
-
-pub shape_of-t : goal.shape_of-t
-shape_of-t c = simp length-set (c.t-3-1.given ∙ c.t-2-1.given ∙ c.t-1.given)
 
 pub returns : goal.returns
 returns c = mms_stored _ _ _ _ _ c.set_word.ensures (flag_is _ c.from.ensures) c.set_word-2.ensures

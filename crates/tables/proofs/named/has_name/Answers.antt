@@ -1,5 +1,5 @@
 -- `has_name` meets its contract. The invariant: the words passed agree.
-use Rattle.std.proofs.Common.{◌≡◌, sym, refl, ◌∙◌, arith}
+use Rattle.std.proofs.Common.{sym, refl, ◌∙◌, arith}
 use Rattle.records.specs.Octets.{agree}
 use Rattle.records.proofs.NameLaws.{agree_more, agree_no}
 use Rattle.tables.proofs.named.has_name.Goals as goal
@@ -13,8 +13,3 @@ loop-k-preserved c = agree_more _ _ c.loop-k.k c.if-t-start.false ∙ c.loop-k.i
 
 pub returns-then-t-start : goal.returns-then-t-start
 returns-then-t-start c = sym (agree_no _ _ 8 c.loop-k.k (omega arith) c.if-t-start.true)
-
-pub returns : goal.returns
-returns c = let l = c.loop-k in
-    let e : l.k ≡ 8 = omega arith in
-    sym (rw e at l.invariant)

@@ -1,5 +1,5 @@
 -- `forget_slot` meets its contract.
-use Rattle.std.proofs.Common.{arith, length-set}
+use Rattle.std.proofs.Common.{arith}
 use Rattle.tables.proofs.OrderLaws.{forget_outside, forget_free, forget_octet, forget_done}
 use Rattle.tables.proofs.order.forget_slot.Goals as goal
 
@@ -17,9 +17,3 @@ with_octet-requires c = let own = forget_octet _ _ c.if-slot-ge16.false (omega a
 pub returns : goal.returns
 returns c = forget_done _ _ c.if-slot-ge16.false (omega arith) (omega arith) c.rank_at-old.ensures c.lowered_word.ensures c.lowered_word-2.ensures
     c.with_octet.ensures
-
-pub bounds-t-slot : goal.bounds-t-slot
-bounds-t-slot c = simp length-set (omega arith)
-
-pub bounds-t-slot-2 : goal.bounds-t-slot-2
-bounds-t-slot-2 c = simp length-set (omega arith)

@@ -1,7 +1,7 @@
 -- `lowered_word` meets its contract. The invariant: the octets from k on are packed.
 use Rattle.std.proofs.Common.{ap, ◌∙◌, arith}
 use Rattle.tables.proofs.OrderLaws.{lowered_most}
-use Rattle.tables.proofs.PackedLaws.{packed_last, packed_next, packed_fits, packed_all}
+use Rattle.tables.proofs.PackedLaws.{packed_last, packed_next, packed_fits}
 use Rattle.tables.specs.Order.{lowered, rank_in}
 use Rattle.tables.proofs.order.lowered_word.Goals as goal
 
@@ -13,9 +13,6 @@ overflow_add-out c = let a = c.args in
 
 pub loop-k-preserved : goal.loop-k-preserved
 loop-k-preserved c = packed_next _ c.loop-k.invariant (omega arith) (c.lowered.ensures ∙ ap (lowered c.args.old) c.rank_in.ensures)
-
-pub returns : goal.returns
-returns c = packed_all _ c.loop-k.invariant (omega arith)
 
 pub loop-k-init : goal.loop-k-init
 loop-k-init c = packed_last _

@@ -3,11 +3,8 @@ use Rattle.std.proofs.Common.{leb, sym, refl, ap, ◌∙◌, arith, le-leb}
 use borrow.Author.Tests.{lt-leb}
 use Rattle.records.specs.Search.{slot_or}
 use Rattle.tables.specs.Order.{new_slot}
-use Rattle.records.proofs.SearchLaws.{reached_first, reached_end, reached_hit, reached_next}
+use Rattle.records.proofs.SearchLaws.{reached_end, reached_hit, reached_next}
 use Rattle.tables.proofs.order.new_slot.Goals as goal
-
-pub loop-i-init : goal.loop-i-init
-loop-i-init c = (refl, reached_first)
 
 pub loop-i-preserved : goal.loop-i-preserved
 loop-i-preserved c = (

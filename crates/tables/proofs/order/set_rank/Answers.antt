@@ -1,5 +1,5 @@
 -- `set_rank` meets its contract.
-use Rattle.std.proofs.Common.{arith, length-set}
+use Rattle.std.proofs.Common.{arith}
 use Rattle.tables.proofs.OrderLaws.{set_outside, set_octet, set_done}
 use Rattle.tables.proofs.order.set_rank.Goals as goal
 
@@ -12,9 +12,3 @@ with_octet-requires c = let own = set_octet _ _ 0 c.if-slot-ge16.false (omega ar
 
 pub returns : goal.returns
 returns c = set_done _ _ _ c.if-slot-ge16.false (omega arith) c.rank_at-old.ensures c.ranks.ensures c.ranks-2.ensures c.with_octet.ensures
-
-pub bounds-t-slot : goal.bounds-t-slot
-bounds-t-slot c = simp length-set (omega arith)
-
-pub bounds-t-slot-2 : goal.bounds-t-slot-2
-bounds-t-slot-2 c = simp length-set (omega arith)

@@ -1,6 +1,6 @@
 -- `used_word` meets its contract.
 use Rattle.std.proofs.Common.{arith}
-use Rattle.tables.proofs.OrderLaws.{own_raised, used_own, used_other}
+use Rattle.tables.proofs.OrderLaws.{own_raised, used_own}
 use Rattle.tables.proofs.order.used_word.Goals as goal
 
 pub with_octet-requires : goal.with_octet-requires
@@ -12,8 +12,3 @@ pub returns-then-own : goal.returns-then-own
 returns-then-own c = let a = c.args in
     let p = c.requires in
     used_own a.old a.word a.place _ p.1 p.2 c.raised_word-raised.ensures c.if-own.true c.with_octet.ensures
-
-pub returns : goal.returns
-returns c = let a = c.args in
-    let p = c.requires in
-    used_other a.old a.word a.place _ p.1 p.2 c.raised_word-raised.ensures c.if-own.false

@@ -1,14 +1,11 @@
 -- `find` meets its contract. The invariant: the search has reached slot i.
 use Rattle.std.proofs.Common.{sym, refl, ◌∙◌, arith}
 use Rattle.records.proofs.Booleans.{and_yes, and_no}
-use Rattle.records.proofs.SearchLaws.{reached_first, reached_end, reached_hit, reached_next}
+use Rattle.records.proofs.SearchLaws.{reached_end, reached_hit, reached_next}
 use Rattle.tables.proofs.OrderLaws.{in_use_read}
 use Rattle.tables.specs.Place.{found}
 use Rattle.tables.proofs.place.find.Goals as goal
 use Rattle.tables.proofs.place.find.Goals.{else-is_at-via-then-is_at+else-rank_at-lt16, else-is_at-via-else-is_at}
-
-pub loop-i-init : goal.loop-i-init
-loop-i-init g c = (refl, reached_first)
 
 pub loop-i-preserved : goal.loop-i-preserved
 loop-i-preserved g c = let k = sym c.is_at.ensures in (

@@ -1,8 +1,0 @@
--- `set_mms_read_only_on` meets its contract.
-use Rattle.checks.proofs.RuleLaws.{flag_is}
-use Rattle.monitor.specs.Settings.{setting_set, set_mms_read_only}
-use Rattle.monitor.proofs.settings.set_mms_read_only_on.Goals as goal
-
-pub returns : goal.returns
-unfolding setting_set set_mms_read_only
-returns c = rw (← flag_is _ c.from.ensures) c.set_setting.ensures
