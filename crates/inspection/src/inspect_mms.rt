@@ -3,7 +3,7 @@
 ghost use Rattle.std.specs.Prelude.{◌≡◌};
 ghost use Rattle.monitor.specs.Monitor.{monitor_of};
 ghost use Rattle.monitor.specs.Settings.{strict_mode};
-ghost use Rattle.inspection.specs.InspectMms.{control_key, full_findings, releases, mms_control, over_rate, mms_rate, mms_applying, masked};
+ghost use Rattle.inspection.specs.InspectMms.{control_key, full_findings, mms_control, over_rate, mms_rate, mms_applying, masked};
 ghost use Rattle.inspection.specs.InspectMms.{mms_rule, mms_checks, checked_mms, inspect_mms};
 ghost use Rattle.inspection.specs.Report.{findings_in};
 
@@ -20,8 +20,10 @@ use records::alert::SOURCE_IEC61850_MMS;
 use records::frame::MmsFrame;
 use records::name::Name;
 use records::result::InspectResult;
+use records::service::MmsServiceType;
 
-// What the checks read of a frame beside the name that a control action states.
+// What the checks read of a frame beside the name that a control action states. The service stands by its number: `mms_checks_on` takes any, so that
+// an enum would ask more of its callers.
 #[derive(Clone, Copy)]
 pub struct MmsNumbers {
     pub service: u8,
@@ -90,16 +92,6 @@ fn full_alert(taken: bool) -> Option<CheckAlert>
     }
 }
 
-// Whether a service of this number gives up reservations: CancelControl 12 and Conclude 10.
-fn releases(service: u8) -> bool
-    ensures { result ≡ releases service }
-{
-    if service == 12 {
-        return true;
-    }
-    service == 10
-}
-
 // The control block that a control action names.
 fn control_key(domain: &[u8; 64], n: MmsNumbers) -> [u64; 10]
     ensures { result ≡ control_key (record { domain = domain.entry.now; numbers = n }) }
@@ -113,22 +105,24 @@ fn control_key(domain: &[u8; 64], n: MmsNumbers) -> [u64; 10]
     )
 }
 
-// The control action of a frame, by the service and not its raw number: SelectControl 11 reserves the control block that it names.
+// The control action of a frame, by the service and not its raw number: SelectControl reserves the control block that it names, CancelControl and
+// Conclude give it up.
 fn mms_control(m: &mut [u64; WORDS], domain: &[u8; 64], n: MmsNumbers) -> Option<CheckAlert>
     ensures { record { monitor = monitor_of m.new; answer = findings_in result }
         ≡ mms_control (record { domain = domain.entry.now; numbers = n }) (monitor_of m.old) }
 {
-    if n.service == 11 {
-        let key = control_key(domain, n);
-        let taken = reserve_cb_on(m, &key, n.client_id);
-        return full_alert(taken);
+    match MmsServiceType::from_u8(n.service) {
+        MmsServiceType::SelectControl => {
+            let key = control_key(domain, n);
+            full_alert(reserve_cb_on(m, &key, n.client_id))
+        }
+        MmsServiceType::CancelControl | MmsServiceType::Conclude => {
+            let key = control_key(domain, n);
+            release_cb_on(m, &key, n.client_id);
+            None
+        }
+        _ => None,
     }
-    if releases(n.service) {
-        let key = control_key(domain, n);
-        release_cb_on(m, &key, n.client_id);
-        return None;
-    }
-    None
 }
 
 // Whether a request is over the rate of its rule; a rate of 0 is no limit.

@@ -1,5 +1,5 @@
 -- The numbers of errors, severities, alert codes and services are injective: each case is read back from its number.
-use Rattle.std.proofs.Common.{◌≡◌, List, [], ◌∷◌, get_or, sym, refl, ap, ◌∙◌}
+use Rattle.std.proofs.Common.{◌≡◌, ℕ, zero, suc, ◌<◌, ◌⊎◌, inl, inr, List, [], ◌∷◌, get_or, sym, refl, ap, ◌∙◌, arith}
 use Rattle.records.specs.declared.error.VsError.{VsError}
 use Rattle.records.specs.declared.error.VsError.TheVariants as error
 use Rattle.records.specs.declared.alert.AlertSeverity.{AlertSeverity}
@@ -137,3 +137,32 @@ service_back service.Unknown = refl
 
 pub service_injective : (a b : MmsServiceType) → service_number a ≡ service_number b → a ≡ b
 service_injective = read_back service_number service_of service_back
+
+-- a number is that of its service, unless the service is unknown
+pub number_back : (v : ℕ) → (service_of v ≡ service.Unknown) ⊎ (service_number (service_of v) ≡ v)
+unfolding service_of
+number_back zero = inl refl
+number_back (suc zero) = inr refl
+number_back (suc (suc zero)) = inr refl
+number_back (suc (suc (suc zero))) = inr refl
+number_back (suc (suc (suc (suc zero)))) = inr refl
+number_back (suc (suc (suc (suc (suc zero))))) = inr refl
+number_back (suc (suc (suc (suc (suc (suc zero)))))) = inr refl
+number_back (suc (suc (suc (suc (suc (suc (suc zero))))))) = inr refl
+number_back (suc (suc (suc (suc (suc (suc (suc (suc zero)))))))) = inr refl
+number_back (suc (suc (suc (suc (suc (suc (suc (suc (suc zero))))))))) = inr refl
+number_back (suc (suc (suc (suc (suc (suc (suc (suc (suc (suc zero)))))))))) = inr refl
+number_back (suc (suc (suc (suc (suc (suc (suc (suc (suc (suc (suc zero))))))))))) = inr refl
+number_back (suc (suc (suc (suc (suc (suc (suc (suc (suc (suc (suc (suc zero)))))))))))) = inr refl
+number_back (suc (suc (suc (suc (suc (suc (suc (suc (suc (suc (suc (suc (suc v))))))))))))) = inl refl
+
+-- the service of a number that is one of those with numbers
+pub is_service : (v : ℕ) {a b : MmsServiceType} → b ≡ service_of v → b ≡ a → service_number a < 255 → v ≡ service_number a
+is_service v {a} e h known = elim (number_back v) [
+    | inl u ↦ absurd (omega (arith, known, ap service_number (sym h ∙ e ∙ u)))
+    | inr n ↦ sym n ∙ ap service_number (sym e ∙ h)
+  ]
+
+-- a number of another service is another number
+pub other_service : (v : ℕ) (a : MmsServiceType) {b : MmsServiceType} → b ≡ service_of v → (b ≡ a → ⊥) → v ≡ service_number a → ⊥
+other_service v a e d h = d (e ∙ ap service_of h ∙ service_back a)
