@@ -47,12 +47,12 @@ name_read {content = content} p n l =
     (λ i. name_of (n i) (l i)) ∙ overlaid_name (replicate 64 0) content (length-replicate {A = ℕ} 64 0) ∙ ap (take 64) p
 
 pub checked_reading_lem :
-    (m : Monitor) (q : SvReading) {svid dataset : List ℕ} {address : ℕ} {counted : Monitor} {c : Checked}
-    → svid ≡ plain_key q.svid → dataset ≡ q.dataset → address ≡ address_of q.source → counted ≡ counted_sv m
-    → c ≡ sv_binding counted (sv_read_by svid dataset (read_numbers address q)) → c ≡ checked_reading m q
-checked_reading_lem m q {counted = counted} k d a n e =
-    counted_checked (λ x. sv_binding x (sv_read_by (plain_key q.svid) q.dataset (read_numbers (address_of q.source) q))) n
-    (e ∙ λ i. sv_binding counted (sv_read_by (k i) (d i) (read_numbers (a i) q)))
+    (m : Monitor) (address : ℕ) (q : SvReading) {svid dataset : List ℕ} {counted : Monitor} {c : Checked}
+    → svid ≡ plain_key q.svid → dataset ≡ q.dataset → counted ≡ counted_sv m
+    → c ≡ sv_binding counted (sv_read_by svid dataset (read_numbers address q)) → c ≡ checked_reading m address q
+checked_reading_lem m address q {counted = counted} k d n e =
+    counted_checked (λ x. sv_binding x (sv_read_by (plain_key q.svid) q.dataset (read_numbers address q))) n
+    (e ∙ λ i. sv_binding counted (sv_read_by (k i) (d i) (read_numbers address q)))
 
 -- ---- the verdict
 
@@ -94,18 +94,22 @@ module _ (m : Monitor) (apdu source : List ℕ) (time : ℕ) {r : Result Part Vs
     places_refused h = raw_refused m (read_error (apdu_frame apdu source time) (reading h)) refl
 
     pub places_inspected :
-        {p : SvPlaces} → places ≡ Ok p → {c : Checked} → c ≡ checked_reading m (reading_at source asdu p)
+        {p : SvPlaces} → places ≡ Ok p → {address : ℕ} → address ≡ address_of source
+        → {c : Checked} → c ≡ checked_reading m address (reading_at source asdu p)
         → {after : Monitor} {verdict : List ℕ}
         → ((source number time : ℕ) → record { monitor = after; answer = verdict } ≡ with_verdict (reported source number time c))
         → record { monitor = after; answer = answered_verdict (Ok verdict) }
         ≡ with_raw_verdict (parsed_inspected m (apdu_frame apdu source time))
     unfolding inspect_sv
-    places_inspected h k v =
+    places_inspected {p} h s k v =
         let r = read_frame (apdu_frame apdu source time) (reading h) in
         let f = r.0 in
         raw_inspected m r.1
         (v source_sv f.smp_cnt f.timestamp_us
-        ∙ ap (λ (c : Checked). with_verdict (reported source_sv f.smp_cnt f.timestamp_us c)) (k ∙ ap (checked_reading m) r.2))
+        ∙ ap (λ (c : Checked). with_verdict (reported source_sv f.smp_cnt f.timestamp_us c))
+        (k
+        ∙ ap (λ (a : ℕ). checked_reading m a (reading_at source asdu p)) s
+        ∙ ap (λ (q : SvReading). checked_reading m (address_of q.source) q) r.2))
 
 -- by the header
 module _ (m : Monitor) (octets : List ℕ) (time : ℕ) {found : Option Header} (e : found ≡ header 0x88BA octets) where

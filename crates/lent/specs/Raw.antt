@@ -9,7 +9,6 @@ use Rattle.monitor.specs.Parts.{After}
 use Rattle.monitor.specs.Totals.{counted_sv}
 use Rattle.inspection.specs.declared.inspect_sv.RawSv.{RawSv}
 use Rattle.inspection.specs.declared.inspect_sv.SvNumbers.{SvNumbers}
-use Rattle.inspection.specs.Address.{address_of}
 use Rattle.inspection.specs.InspectSv.{sv_read_by, sv_binding}
 use Rattle.inspection.specs.Report.{Checked}
 use Rattle.lent.specs.declared.raw.RawVerdict.{RawVerdict}
@@ -40,5 +39,5 @@ read_numbers address q =
       smp_rate = q.smp_rate;
     }
 
-abbrev pub checked_reading : Monitor → SvReading → Checked
-checked_reading m q = sv_binding (counted_sv m) (sv_read_by (plain_key q.svid) q.dataset (read_numbers (address_of q.source) q))
+abbrev pub checked_reading : Monitor → ℕ → SvReading → Checked
+checked_reading m address q = sv_binding (counted_sv m) (sv_read_by (plain_key q.svid) q.dataset (read_numbers address q))

@@ -1,5 +1,5 @@
 // A raw SV frame, read where it stands.
-ghost use Rattle.std.specs.Prelude.{ℕ, ◌≡◌};
+ghost use Rattle.std.specs.Prelude.{ℕ, List, ◌≡◌};
 ghost use Rattle.sv_frame.specs.Places.{reading_at};
 ghost use Rattle.sv_frame.specs.Sv.{apdu_frame};
 ghost use Rattle.monitor.specs.Monitor.{monitor_of};
@@ -15,7 +15,7 @@ use monitor::parts::WORDS;
 use monitor::totals::{SV_TOTAL_INSPECTED, count_frame_on};
 use records::error::VsError;
 use records::name::Name;
-use sv_frame::field::name_len;
+use sv_frame::field::{name_len, overlay};
 use sv_frame::places::{SvPlaces, name_octets, sv_places};
 use sv_frame::sv::sv_asdu;
 use wire::element::content;
@@ -38,13 +38,13 @@ fn refused_verdict(error: VsError) -> RawVerdict
     }
 }
 
-// Counts and checks a frame of a source, by the places of its ASDU.
-fn check_places(m: &mut [u64; WORDS], asdu: &[u8], source: [u8; 6], p: SvPlaces) -> CheckAlerts
-    ensures { record { monitor = monitor_of m.new; answer = alerts_of result }
-        ≡ checked_reading (monitor_of m.old) (reading_at source asdu.now p) }
+// Counts and checks a frame of a source's address, by the places of its ASDU. A name that is made where it is lent is not copied once more.
+fn check_places(m: &mut [u64; WORDS], asdu: &[u8], address: u64, p: SvPlaces) -> CheckAlerts
+    ensures { (source : List ℕ) → record { monitor = monitor_of m.new; answer = alerts_of result }
+        ≡ checked_reading (monitor_of m.old) address (reading_at source asdu.now p) }
 {
     let n = SvNumbers {
-        address: address_of(source),
+        address,
         seconds: p.seconds,
         fraction: p.fraction,
         smp_cnt: p.smp_cnt,
@@ -52,6 +52,8 @@ fn check_places(m: &mut [u64; WORDS], asdu: &[u8], source: [u8; 6], p: SvPlaces)
     };
     let svid = content(asdu, p.svid.start, p.svid.len);
     let dataset = content(asdu, p.dataset.start, p.dataset.len);
+    let mut dataset_name = [0u8; 64];
+    overlay(&mut dataset_name, dataset);
     count_frame_on(m, SV_TOTAL_INSPECTED);
     sv_checks_on(
         m,
@@ -60,7 +62,7 @@ fn check_places(m: &mut [u64; WORDS], asdu: &[u8], source: [u8; 6], p: SvPlaces)
             len: name_len(svid),
         }),
         Name {
-            octets: &name_octets(dataset),
+            octets: &dataset_name,
             len: name_len(dataset),
         },
         n,
@@ -72,10 +74,12 @@ fn apdu_verdict(m: &mut [u64; WORDS], apdu: &[u8], source: [u8; 6]) -> Result<[u
     ensures { (time : ℕ) → record { monitor = monitor_of m.new; answer = answered_verdict result }
         ≡ with_raw_verdict (parsed_inspected (monitor_of m.old) (apdu_frame apdu.now source time)) }
 {
+    // Made before the searches, which the six octets would else be kept through.
+    let address = address_of(source);
     let place = sv_asdu(apdu)?;
     let asdu = content(apdu, place.start, place.len);
     let p = sv_places(asdu)?;
-    let alerts = check_places(m, asdu, source, p);
+    let alerts = check_places(m, asdu, address, p);
     Ok(verdict_on(m, alerts))
 }
 

@@ -11,11 +11,10 @@ use lib.ListN.{length, take, drop, length-take, length-drop}
 use lib.Seq.{take_all, drop-drop}
 use Rattle.records.proofs.Booleans.{cond_holds}
 use Rattle.records.specs.Octets.{octet_at}
-use Rattle.std.proofs.Common.{Option, Some, None, Result, Ok, Err}
+use Rattle.std.proofs.Common.{Option, Some, None, Ok, Err}
 use Rattle.wire.specs.declared.element.Length.{Length}
 use Rattle.wire.specs.declared.element.Head.{Head}
 use Rattle.wire.specs.declared.element.Element.{Element}
-use Rattle.wire.specs.declared.element.Part.{Part}
 use Rattle.wire.specs.Number.{big_endian}
 use Rattle.wire.proofs.PartLaws.{rest-is}
 use Rattle.records.specs.declared.error.VsError.{VsError}

@@ -5,8 +5,6 @@ use Rattle.records.specs.Row.{ValuesOr}
 use Prim.Native.Nat.{ℕ}
 use mathlib.Core.List.{List}
 use Rattle.std.proofs.Common.{Option, Some, None}
-use Rattle.records.specs.declared.error.VsError.TheVariants.{InvalidInput}
-use Rattle.records.specs.Row.{error_row}
 use Rattle.std.specs.Prelude.{option_map}
 use Rattle.wire.specs.declared.header.Header.{Header}
 use Rattle.wire.specs.Element.{length_row, head_row, element_row, length_of, head_of, element}

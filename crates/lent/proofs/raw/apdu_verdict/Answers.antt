@@ -19,4 +19,4 @@ returns-in_err-p c time = let a = c.args in
 pub returns : goal.returns
 returns c time = let a = c.args in
     places_inspected (monitor_of a.m.now) a.apdu.now a.source time c.sv_asdu.ensures c.in_ok-place.was c.content-asdu.ensures
-    c.sv_places.ensures c.in_ok-p.was c.check_places-alerts.ensures c.verdict_on.ensures
+    c.sv_places.ensures c.in_ok-p.was c.address_of-address.ensures (c.check_places-alerts.ensures a.source) c.verdict_on.ensures

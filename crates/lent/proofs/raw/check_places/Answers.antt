@@ -7,8 +7,8 @@ use Rattle.lent.proofs.RawLaws.{name_read, checked_reading_lem}
 use Rattle.lent.proofs.raw.check_places.Goals as goal
 
 pub returns : goal.returns
-returns c = let a = c.args in
-    checked_reading_lem (monitor_of a.m.now) (reading_at a.source a.asdu.now a.p)
+returns c source = let a = c.args in
+    checked_reading_lem (monitor_of a.m.now) a.address (reading_at source a.asdu.now a.p)
     (c.plain_key.ensures ∙ ap plain_key (name_read c.content-svid.ensures c.name_octets.ensures c.name_len.ensures))
-    (name_read c.content-dataset.ensures c.name_octets-2.ensures c.name_len-2.ensures)
-    c.address_of.ensures c.count_frame_on.ensures c.sv_checks_on.ensures
+    (name_read c.content-dataset.ensures c.overlay.ensures c.name_len-2.ensures)
+    c.count_frame_on.ensures c.sv_checks_on.ensures

@@ -1,8 +1,7 @@
 -- `read_length` meets its contract.
 use native.Mathlib.Omega.{arith}
-use mathlib.Core.Path.{◌≡◌, sym, ◌∙◌}
+use mathlib.Core.Path.{sym, ◌∙◌}
 use borrow.Author.Tests.{eqb-true, eqb-false}
-use Prim.Native.Nat.{◌<◌}
 use lib.ListN.{length}
 use Rattle.wire.specs.LengthCases.{short, indefinite, long, remainder}
 use Rattle.wire.proofs.ElementLaws.{length_none}
