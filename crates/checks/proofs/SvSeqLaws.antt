@@ -1,10 +1,9 @@
--- Laws of SV streams: each way that a count goes, and the check carried out on the words of the table.
-use Prim.Native.Nat.{ℕ, ◌-◌, ◌≤◌, ◌<◌}
+-- Laws of SV streams: the check carried out on the words of the table.
+use Prim.Native.Nat.{ℕ}
 use mathlib.Core.Bool.{Bool, true, false}
 use mathlib.Core.List.{List}
 use mathlib.Core.Path.{◌≡◌, refl, ap, ◌∙◌}
-use native.Mathlib.Omega.{arith}
-use borrow.Author.Tests.{lt-ltb, le-ltb, le-leb, lt-leb, eq-eqb, ne_eqb}
+use borrow.Author.Tests.{eq-eqb}
 use Rattle.records.specs.Remembered.{after}
 use Rattle.tables.proofs.WordTables.{one_laws, named_laws, value_read, value_stored}
 use Rattle.tables.specs.declared.place.Place.{Place}
@@ -14,41 +13,13 @@ use Rattle.tables.specs.Place.{entered, if_known}
 use Rattle.tables.specs.Table.{value_of}
 use Rattle.tables.specs.WordTable.{one_number}
 use Rattle.checks.specs.declared.sv_seq.SvSeqOutcome.{SvSeqOutcome}
-use Rattle.checks.specs.declared.sv_seq.SvSeqOutcome.TheVariants.{FirstSeen, Replay, ForwardGap, CycleWrap, SuspiciousSmpGap}
+use Rattle.checks.specs.declared.sv_seq.SvSeqOutcome.TheVariants.{Replay}
 use Rattle.checks.specs.SvSeq.{sv_streams, count_outcome, sv_outcome, is_replay, count_or, kept_count, sv_checked}
 
-module _ (c n : ℕ) where
-  pub count_same : n ≡ c → Replay ≡ count_outcome c n
-  unfolding count_outcome
-  count_same e = rw (eq-eqb n c e)
-
-  pub count_forward : c < n → ForwardGap (n - c) ≡ count_outcome c n
-  unfolding count_outcome
-  count_forward h = rw (ne_eqb n c (λ e. omega arith), lt-ltb c n h)
-
-  module _ (h : n < c) where
-    pub count_backward : c - n ≤ 32766 → Replay ≡ count_outcome c n
-    unfolding count_outcome
-    count_backward l = rw (ne_eqb n c (λ e. omega arith), le-ltb c n (omega arith), le-leb (c - n) 32766 l)
-
-    pub count_wraps : 65280 ≤ c - n → CycleWrap ≡ count_outcome c n
-    unfolding count_outcome
-    count_wraps s =
-        rw (ne_eqb n c (λ e. omega arith), le-ltb c n (omega arith), lt-leb (c - n) 32766 (omega arith), le-leb (65536 - (c - n)) 256 (omega arith))
-
-    pub count_suspicious : 32766 < c - n → c - n < 65280 → SuspiciousSmpGap (65536 - (c - n)) ≡ count_outcome c n
-    unfolding count_outcome
-    count_suspicious l s =
-        rw (ne_eqb n c (λ e. omega arith), le-ltb c n (omega arith), lt-leb (c - n) 32766 l, lt-leb (65536 - (c - n)) 256 (omega arith))
-
--- any other outcome is no replay
-pub not_replay : (o : SvSeqOutcome) → (o ≡ Replay → ⊥) → false ≡ is_replay o
-unfolding is_replay
-not_replay FirstSeen n = refl
-not_replay Replay n = absurd (n refl)
-not_replay (ForwardGap gap) n = refl
-not_replay CycleWrap n = refl
-not_replay (SuspiciousSmpGap gap) n = refl
+-- an equal count
+pub count_same : (c n : ℕ) → n ≡ c → Replay ≡ count_outcome c n
+unfolding count_outcome
+count_same c n e = rw (eq-eqb n c e)
 
 -- the count that is kept
 kept_after : (known : Bool) (last n : ℕ) → count_or (is_replay (sv_outcome (if_known known last) n)) last n ≡ after (λ i. i) kept_count (if_known known last) n

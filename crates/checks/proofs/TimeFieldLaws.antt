@@ -1,11 +1,11 @@
--- Laws of clocks: each way that a pair goes, and the check carried out on the words of the table.
-use Prim.Native.Nat.{ℕ, ◌-◌, ◌<◌}
+-- Laws of clocks: the check carried out on the words of the table.
+use Prim.Native.Nat.{ℕ, ◌-◌}
 use mathlib.Core.Bool.{Bool, true, false, ◌&&◌, ◌||◌}
 use mathlib.Core.List.{List}
 use mathlib.Core.Option.{Option, none, some}
 use mathlib.Core.Path.{◌≡◌, refl, sym, ap, ◌∙◌}
 use native.Mathlib.Omega.{arith}
-use borrow.Author.Tests.{lt-ltb, le-ltb, eq-eqb, ne_eqb}
+use borrow.Author.Tests.{le-ltb, eq-eqb}
 use lib.Dec.{ltb}
 use Rattle.records.proofs.Booleans.{cond_yes, cond_no}
 use Rattle.records.specs.Remembered.{after}
@@ -29,25 +29,12 @@ pub latest : (pair : ℕ × ℕ) (o : Option (ℕ × ℕ)) → pair ≡ after (�
 latest pair none = refl
 latest pair (some kept) = refl
 
-module _ (limit : ℕ) (kept pair : ℕ × ℕ) where
-  pub alert_earlier : pair.0 < kept.0 → true ≡ clock_alert limit (some kept) pair
-  unfolding earlier
-  alert_earlier h = rw (lt-ltb pair.0 kept.0 h)
-
-  pub alert_same : pair.0 ≡ kept.0 → ltb pair.1 kept.1 ≡ clock_alert limit (some kept) pair
-  unfolding earlier
-  alert_same h =
-      let d : ltb limit (pair.0 - kept.0) ≡ false = le-ltb limit (pair.0 - kept.0) (omega arith) in
-      rw (le-ltb pair.0 kept.0 (omega arith), eq-eqb pair.0 kept.0 h, d) (sym (or-none (ltb 0 limit) (ltb pair.1 kept.1)))
-
-  module _ (h : kept.0 < pair.0) where
-    pub alert_unlimited : limit ≡ 0 → false ≡ clock_alert limit (some kept) pair
-    unfolding earlier
-    alert_unlimited z = rw (le-ltb pair.0 kept.0 (omega arith), ne_eqb pair.0 kept.0 (λ q. omega arith), le-ltb 0 limit (omega arith))
-
-    pub alert_ahead : (limit ≡ 0 → ⊥) → ltb limit (pair.0 - kept.0) ≡ clock_alert limit (some kept) pair
-    unfolding earlier
-    alert_ahead z = rw (le-ltb pair.0 kept.0 (omega arith), ne_eqb pair.0 kept.0 (λ q. omega arith), lt-ltb 0 limit (omega arith))
+-- a pair of the same second
+pub alert_same : (limit : ℕ) (kept pair : ℕ × ℕ) → pair.0 ≡ kept.0 → ltb pair.1 kept.1 ≡ clock_alert limit (some kept) pair
+unfolding earlier
+alert_same limit kept pair h =
+    let d : ltb limit (pair.0 - kept.0) ≡ false = le-ltb limit (pair.0 - kept.0) (omega arith) in
+    rw (le-ltb pair.0 kept.0 (omega arith), eq-eqb pair.0 kept.0 h, d) (sym (or-none (ltb 0 limit) (ltb pair.1 kept.1)))
 
 module _ (t : List ℕ) (limit address : ℕ) (pair : ℕ × ℕ) where
   -- a pair of zeros

@@ -1,4 +1,5 @@
 // The parts of the monitor and their checks, each over the words of its part: rules, tables that remember something, reservations.
+// A part is a slice whose length its functions require: as an array of its own it would come as a Result, whose other case would need an answer.
 #![tactic(auto)]
 
 pub mod goose_publisher;

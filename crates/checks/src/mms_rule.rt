@@ -1,7 +1,5 @@
 // MMS rules, carried over from industrial/iec61850-monitor/src/lib.rs of craton-shield a31d888527 (Apache-2.0) and changed: columns of
 // masks, read-only flags and rates, and the count behind them; no flag for a rule below the count, since it is always there.
-#![tactic(auto, using(crate::proofs::RuleLaws::flag_is), unfolding(crate::specs::MmsRule::has_bit, crate::specs::MmsRule::applies, crate::specs::MmsRule::with_mms_rule))]
-
 ghost use Rattle.std.specs.Prelude.{◌≡◌, ◌≤◌, length};
 ghost use Rattle.checks.specs.MmsRule.{has_bit, applies, first_rule, rule_read_only, rule_rate, with_mms_rule, mms_added};
 
@@ -17,6 +15,7 @@ const RATES: usize = 32;
 const COUNT: usize = 48;
 
 // Whether a mask has the bit of a raw number; only numbers below 16 have one.
+#[tactic(auto, unfolding(crate::specs::MmsRule::has_bit))]
 pub fn has_bit(mask: u64, raw: u8) -> bool
     ensures { result ≡ has_bit mask raw }
 {
@@ -24,6 +23,7 @@ pub fn has_bit(mask: u64, raw: u8) -> bool
 }
 
 // Whether a rule of this mask applies to a raw number.
+#[tactic(auto, unfolding(crate::specs::MmsRule::applies))]
 pub fn applies(mask: u64, raw: u8) -> bool
     ensures { result ≡ applies mask raw }
 {
@@ -63,6 +63,7 @@ pub fn rule_rate(t: &[u64], place: usize) -> u16
 }
 
 // Stores one more rule, behind the others.
+#[tactic(auto, using(crate::proofs::RuleLaws::flag_is), unfolding(crate::specs::MmsRule::with_mms_rule))]
 fn store_mms_rule(t: &mut [u64], slot: usize, mask: u16, read_only: bool, rate: u16)
     requires { (length t.old ≡ 49) × (slot ≤ 16) }
     ensures { t.new ≡ with_mms_rule t.old slot mask read_only rate }

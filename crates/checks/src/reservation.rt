@@ -1,7 +1,5 @@
 // Reservations of control blocks, carried over from industrial/iec61850-monitor/src/lib.rs of craton-shield a31d888527 (Apache-2.0) and
 // changed: a table by name, whose numbers are the kinds, 1 for GOOSE and 0 for SV. Entries are not aged: a slot in use has rank 0.
-#![tactic(auto, unfolding(crate::specs::Reservation::bound_at, crate::specs::Reservation::taken_at, crate::specs::Reservation::place_for, crate::specs::Reservation::reserved, crate::specs::Reservation::cb_checked, crate::specs::Reservation::released, crate::specs::Reservation::all_freed))]
-
 ghost use Rattle.std.specs.Prelude.{◌≡◌, ◌+◌, ◌≤◌, ◌<◌, length};
 ghost use Rattle.tables.specs.Packed.{packed};
 ghost use Rattle.checks.specs.Reservation.{bound_at, cb_checked, place_for, taken_at, reserved, owned_slot, freed_rank, all_freed, released};
@@ -19,6 +17,7 @@ const BOUND: usize = VALUES + 16;
 const ADDRESSES: usize = VALUES + 32;
 
 // Binds a slot's reservation to the first address that uses it; another is a hijack.
+#[tactic(auto, unfolding(crate::specs::Reservation::bound_at))]
 fn bind_at(t: &mut [u64], slot: usize, address: u64) -> bool
     requires { length t.old ≡ 210 }
     ensures { record { table = t.new; hijack = result } ≡ bound_at t.old slot address }
@@ -32,6 +31,7 @@ fn bind_at(t: &mut [u64], slot: usize, address: u64) -> bool
 }
 
 // The use of a control block by an address, and whether it is bound to another. An empty name is never looked up.
+#[tactic(auto, unfolding(crate::specs::Reservation::cb_checked))]
 pub fn check_cb_in(t: &mut [u64], key: &[u64; 10], address: u64) -> bool
     requires { length t.old ≡ 210 }
     ensures { record { table = t.new; hijack = result } ≡ cb_checked t.old key.now address }
@@ -47,6 +47,7 @@ pub fn check_cb_in(t: &mut [u64], key: &[u64; 10], address: u64) -> bool
 
 // The slot that a SelectControl takes: the one of that name and kind, or the first free one. A closure for `or_else` would state the contract of
 // `free_slot` again.
+#[tactic(auto, unfolding(crate::specs::Reservation::place_for))]
 fn place_for(t: &[u64], key: &[u64; 10]) -> Option<usize>
     requires { length t.now ≡ 210 }
     ensures { result ≡ place_for t.now key.now }
@@ -58,6 +59,7 @@ fn place_for(t: &[u64], key: &[u64; 10]) -> Option<usize>
 }
 
 // Takes a slot for a client's reservation, which is not bound.
+#[tactic(auto, unfolding(crate::specs::Reservation::taken_at))]
 fn take_at(t: &mut [u64], slot: usize, key: &[u64; 10], client: u32)
     requires { length t.old ≡ 210 }
     ensures { t.new ≡ taken_at t.old slot key.now client }
@@ -70,6 +72,7 @@ fn take_at(t: &mut [u64], slot: usize, key: &[u64; 10], client: u32)
 }
 
 // A SelectControl takes or takes over a name, the empty one too; a full table is left as it is. Answers whether it was taken.
+#[tactic(auto, unfolding(crate::specs::Reservation::reserved))]
 pub fn reserve_cb_in(t: &mut [u64], key: &[u64; 10], client: u32) -> bool
     requires { length t.old ≡ 210 }
     ensures { record { table = t.new; taken = result } ≡ reserved t.old key.now client }
@@ -131,6 +134,7 @@ fn free_all(t: &mut [u64], client: u32)
 }
 
 // A Cancel or Conclude frees a name of the same client, with an empty name all of that client's of both kinds.
+#[tactic(auto, unfolding(crate::specs::Reservation::released))]
 pub fn release_cb_in(t: &mut [u64], key: &[u64; 10], client: u32)
     requires { length t.old ≡ 210 }
     ensures { t.new ≡ released t.old key.now client }

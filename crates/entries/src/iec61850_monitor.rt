@@ -91,26 +91,24 @@ impl Iec61850Monitor {
     }
 
     // Bit n of the mask allows the service of raw number n; 0 filters none.
-    pub fn set_mms_service_mask(self, mask: u16) -> Self
+    pub fn set_mms_service_mask(mut self, mask: u16) -> Self
         ensures { monitor_of result.words ≡ set_mms_service_mask (monitor_of self.words) mask }
     {
-        let mut out = self;
-        set_mms_service_mask_on(&mut out.words, mask);
-        out
+        set_mms_service_mask_on(&mut self.words, mask);
+        self
     }
 
     // Whether all writes are refused.
-    pub fn set_mms_read_only(self, read_only: bool) -> Self
+    pub fn set_mms_read_only(mut self, read_only: bool) -> Self
         ensures { monitor_of result.words ≡ set_mms_read_only (monitor_of self.words) read_only }
     {
-        let mut out = self;
-        set_mms_read_only_on(&mut out.words, read_only);
-        out
+        set_mms_read_only_on(&mut self.words, read_only);
+        self
     }
 
     // Adds an MMS rule of a mask, write protection and a rate, 0 for no limit.
     pub fn add_mms_rule(
-        self,
+        mut self,
         service_mask: u16,
         read_only: bool,
         max_rate_per_sec: u16,
@@ -119,32 +117,30 @@ impl Iec61850Monitor {
             ≡ mms_added_on (monitor_of self.words) service_mask read_only max_rate_per_sec }
         ensures numbers { AddNumbers (mms_rule_count (monitor_of self.words).mms_rules) 0 result.answer }
     {
-        let mut out = self;
-        let answer = add_mms_rule_on(&mut out.words, service_mask, read_only, max_rate_per_sec);
+        let answer = add_mms_rule_on(&mut self.words, service_mask, read_only, max_rate_per_sec);
         Configured {
-            monitor: out,
+            monitor: self,
             answer,
         }
     }
 
     // Adds a GOOSE publisher; an empty name fits any control block of the address.
-    pub fn add_goose_publisher(self, src_mac: [u8; 6], go_cb_ref: &[u8]) -> Configured
+    pub fn add_goose_publisher(mut self, src_mac: [u8; 6], go_cb_ref: &[u8]) -> Configured
         ensures value { record { monitor = monitor_of result.monitor.words; answer = result.answer }
             ≡ goose_added_on (monitor_of self.words) (address_of src_mac) go_cb_ref.now }
         ensures numbers { AddNumbers (goose_publisher_count (monitor_of self.words).goose_publishers) (length go_cb_ref.now)
             result.answer }
     {
-        let mut out = self;
-        let answer = add_goose_publisher_on(&mut out.words, address_of(src_mac), go_cb_ref);
+        let answer = add_goose_publisher_on(&mut self.words, address_of(src_mac), go_cb_ref);
         Configured {
-            monitor: out,
+            monitor: self,
             answer,
         }
     }
 
     // Binds an svID to an address; a rate of 0 is not compared.
     pub fn add_sv_publisher(
-        self,
+        mut self,
         src_mac: [u8; 6],
         svid: &[u8],
         expected_smp_rate: u16,
@@ -153,53 +149,48 @@ impl Iec61850Monitor {
             ≡ sv_added_on (monitor_of self.words) (address_of src_mac) svid.now expected_smp_rate }
         ensures numbers { AddNumbers (sv_publisher_count (monitor_of self.words).sv_publishers) (length svid.now) result.answer }
     {
-        let mut out = self;
         let answer = add_sv_publisher_on(
-            &mut out.words,
+            &mut self.words,
             address_of(src_mac),
             svid,
             expected_smp_rate,
         );
         Configured {
-            monitor: out,
+            monitor: self,
             answer,
         }
     }
 
     // Whether GOOSE test frames are refused.
-    pub fn set_block_test_frames(self, block: bool) -> Self
+    pub fn set_block_test_frames(mut self, block: bool) -> Self
         ensures { monitor_of result.words ≡ set_block_test_frames (monitor_of self.words) block }
     {
-        let mut out = self;
-        set_block_test_frames_on(&mut out.words, block);
-        out
+        set_block_test_frames_on(&mut self.words, block);
+        self
     }
 
     // The largest gap of smpCnt that is accepted; 0 accepts any.
-    pub fn set_sv_max_smp_cnt_gap(self, gap: u16) -> Self
+    pub fn set_sv_max_smp_cnt_gap(mut self, gap: u16) -> Self
         ensures { monitor_of result.words ≡ set_sv_max_smp_cnt_gap (monitor_of self.words) gap }
     {
-        let mut out = self;
-        set_sv_max_smp_cnt_gap_on(&mut out.words, gap);
-        out
+        set_sv_max_smp_cnt_gap_on(&mut self.words, gap);
+        self
     }
 
     // The schedule of retransmissions, and whether it is enforced.
-    pub fn set_retx_schedule(self, schedule: RetxSchedule, enforce: bool) -> Self
+    pub fn set_retx_schedule(mut self, schedule: RetxSchedule, enforce: bool) -> Self
         ensures { monitor_of result.words ≡ set_retx_schedule (monitor_of self.words) schedule enforce }
     {
-        let mut out = self;
-        set_retx_schedule_on(&mut out.words, schedule, enforce);
-        out
+        set_retx_schedule_on(&mut self.words, schedule, enforce);
+        self
     }
 
     // How many seconds a clock may go ahead from one frame to the next; 0 for any. Going back always alerts.
-    pub fn set_time_max_forward_jump_s(self, seconds: u32) -> Self
+    pub fn set_time_max_forward_jump_s(mut self, seconds: u32) -> Self
         ensures { monitor_of result.words ≡ set_time_max_forward_jump (monitor_of self.words) seconds }
     {
-        let mut out = self;
-        set_time_max_forward_jump_s_on(&mut out.words, seconds);
-        out
+        set_time_max_forward_jump_s_on(&mut self.words, seconds);
+        self
     }
 
     pub fn mms_total_inspected(self) -> u64
@@ -233,46 +224,42 @@ impl Iec61850Monitor {
     }
 
     // As new but for the settings: rules, tables, reservations and totals are gone.
-    pub fn reset(self) -> Self
+    pub fn reset(mut self) -> Self
         ensures { monitor_of result.words ≡ reset_monitor (monitor_of self.words) }
     {
-        let mut out = self;
-        reset_on(&mut out.words);
-        out
+        reset_on(&mut self.words);
+        self
     }
 
     // The monitor after an MMS frame, and the result.
-    pub fn inspect_mms(self, frame: MmsFrame) -> Inspected
+    pub fn inspect_mms(mut self, frame: MmsFrame) -> Inspected
         ensures { record { monitor = monitor_of result.monitor.words; answer = result.result } ≡ inspect_mms (monitor_of self.words) frame }
     {
-        let mut out = self;
-        let result = inspect_mms_on(&mut out.words, frame);
+        let result = inspect_mms_on(&mut self.words, frame);
         Inspected {
-            monitor: out,
+            monitor: self,
             result,
         }
     }
 
     // The monitor after a GOOSE frame, and the result.
-    pub fn inspect_goose(self, frame: GooseFrame) -> Inspected
+    pub fn inspect_goose(mut self, frame: GooseFrame) -> Inspected
         ensures { record { monitor = monitor_of result.monitor.words; answer = result.result } ≡ inspect_goose (monitor_of self.words) frame }
     {
-        let mut out = self;
-        let result = inspect_goose_on(&mut out.words, frame);
+        let result = inspect_goose_on(&mut self.words, frame);
         Inspected {
-            monitor: out,
+            monitor: self,
             result,
         }
     }
 
     // The monitor after an SV frame, and the result.
-    pub fn inspect_sv(self, frame: SvFrame) -> Inspected
+    pub fn inspect_sv(mut self, frame: SvFrame) -> Inspected
         ensures { record { monitor = monitor_of result.monitor.words; answer = result.result } ≡ inspect_sv (monitor_of self.words) frame }
     {
-        let mut out = self;
-        let result = inspect_sv_on(&mut out.words, frame);
+        let result = inspect_sv_on(&mut self.words, frame);
         Inspected {
-            monitor: out,
+            monitor: self,
             result,
         }
     }

@@ -24,42 +24,26 @@ pub struct SvChecked {
     pub outcome: SvSeqOutcome,
 }
 
-fn clear_table(t: &mut [u64; 178])
-    ensures { t.new ≡ no_entries 178 }
-{
-    clear(t);
-}
-
 impl SvSeqTable {
     // No streams.
     pub fn new() -> Self
         ensures { result.words ≡ no_entries 178 }
     {
         let mut out = SvSeqTable { words: [0; 178] };
-        clear_table(&mut out.words);
+        clear(&mut out.words);
         out
     }
 }
 
-fn check_table(t: &mut [u64; 178], svid: &[u64; 10], smp_cnt: u16) -> SvSeqOutcome
-    ensures { record { table = t.new; outcome = result } ≡ sv_checked t.old svid.now smp_cnt }
-{
-    check_sv_seq_in(t, svid, smp_cnt)
-}
-
 // The streams after a frame of this svID and count, and what the count says.
-pub fn check_sv_seq(table: SvSeqTable, svid: [u8; 64], svid_len: u8, smp_cnt: u16) -> SvChecked
+pub fn check_sv_seq(mut table: SvSeqTable, svid: [u8; 64], svid_len: u8, smp_cnt: u16) -> SvChecked
     ensures { record { table = result.table.words; outcome = result.outcome }
         ≡ sv_checked table.words (plain_key (name_of svid svid_len)) smp_cnt }
 {
-    let mut out = table;
     let key = plain_key(Name {
         octets: &svid,
         len: svid_len,
     });
-    let outcome = check_table(&mut out.words, &key, smp_cnt);
-    SvChecked {
-        table: out,
-        outcome: outcome,
-    }
+    let outcome = check_sv_seq_in(&mut table.words, &key, smp_cnt);
+    SvChecked { table, outcome }
 }

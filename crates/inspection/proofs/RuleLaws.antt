@@ -20,7 +20,8 @@ use Rattle.checks.specs.Rules.{rule_count, add_answer, if_added}
 use Rattle.checks.specs.SvPublisher.{sv_publisher_count, with_sv_publisher, sv_added}
 
 -- a refused call leaves the list that was
-pub not_added : {A : Type 0} (put : List ℕ → A) (new old : List ℕ) (answer : Result (Unit {0}) VsError) (e : VsError) → answer ≡ Err e → put (if_added answer new old) ≡ put old
+pub not_added : {A : Type 0} (put : List ℕ → A) (new old : List ℕ) (answer : Result (Unit {0}) VsError) (e : VsError) → answer ≡ Err e
+    → put (if_added answer new old) ≡ put old
 not_added put new old answer e h = ap (λ (a : Result (Unit {0}) VsError). put (if_added a new old)) h
 
 -- a count that is set, also behind the end of a list, where there is none

@@ -4,7 +4,8 @@
 
 ghost use Rattle.std.specs.Prelude.{◌≡◌};
 ghost use Rattle.monitor.specs.Monitor.{monitor_of};
-ghost use Rattle.monitor.specs.Parts.{sv_seq_on, goose_seq_on, time_field_on, rate_on, cb_on, reserved_on, released_on, mms_added_on, goose_added_on, sv_added_on};
+ghost use Rattle.monitor.specs.Parts.{sv_seq_on, goose_seq_on, time_field_on, rate_on, cb_on, reserved_on, released_on};
+ghost use Rattle.monitor.specs.Parts.{mms_added_on, goose_added_on, sv_added_on};
 ghost use Rattle.checks.specs.GoosePublisher.{goose_publisher_count, goose_publisher};
 ghost use Rattle.checks.specs.GooseSeq.{numbers_of, retx_checked};
 ghost use Rattle.checks.specs.MmsRule.{mms_rule_count, first_rule, rule_read_only, rule_rate};

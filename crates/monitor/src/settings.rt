@@ -1,7 +1,5 @@
 // Settings, carried over from industrial/iec61850-monitor/src/lib.rs of craton-shield a31d888527 (Apache-2.0) and changed: ten words, which the set
 // calls store in place.
-#![tactic(auto, unfolding(crate::specs::Settings::setting_set, crate::specs::Settings::set_mms_service_mask, crate::specs::Settings::set_mms_read_only, crate::specs::Settings::set_block_test_frames, crate::specs::Settings::set_sv_max_smp_cnt_gap, crate::specs::Settings::set_time_max_forward_jump))]
-
 ghost use Rattle.std.specs.Prelude.{◌≡◌, ◌<◌, min, ◌-◌, ◌^◌};
 ghost use Rattle.monitor.specs.Monitor.{monitor_of};
 ghost use Rattle.monitor.specs.Settings.{setting_set, set_mms_service_mask, set_mms_read_only, set_block_test_frames};
@@ -41,6 +39,7 @@ pub fn set_setting(m: &mut [u64; WORDS], place: usize, v: u64)
 }
 
 // Bit n of the mask allows the service of raw number n; 0 filters none.
+#[tactic(auto, unfolding(crate::specs::Settings::setting_set, crate::specs::Settings::set_mms_service_mask))]
 pub fn set_mms_service_mask_on(m: &mut [u64; WORDS], mask: u16)
     ensures { monitor_of m.new ≡ set_mms_service_mask (monitor_of m.old) mask }
 {
@@ -48,6 +47,7 @@ pub fn set_mms_service_mask_on(m: &mut [u64; WORDS], mask: u16)
 }
 
 // Whether all writes are refused.
+#[tactic(auto, unfolding(crate::specs::Settings::setting_set, crate::specs::Settings::set_mms_read_only))]
 pub fn set_mms_read_only_on(m: &mut [u64; WORDS], read_only: bool)
     ensures { monitor_of m.new ≡ set_mms_read_only (monitor_of m.old) read_only }
 {
@@ -55,6 +55,7 @@ pub fn set_mms_read_only_on(m: &mut [u64; WORDS], read_only: bool)
 }
 
 // Whether GOOSE test frames are refused.
+#[tactic(auto, unfolding(crate::specs::Settings::setting_set, crate::specs::Settings::set_block_test_frames))]
 pub fn set_block_test_frames_on(m: &mut [u64; WORDS], block: bool)
     ensures { monitor_of m.new ≡ set_block_test_frames (monitor_of m.old) block }
 {
@@ -62,6 +63,7 @@ pub fn set_block_test_frames_on(m: &mut [u64; WORDS], block: bool)
 }
 
 // The largest gap of smpCnt that is accepted; 0 accepts any.
+#[tactic(auto, unfolding(crate::specs::Settings::setting_set, crate::specs::Settings::set_sv_max_smp_cnt_gap))]
 pub fn set_sv_max_smp_cnt_gap_on(m: &mut [u64; WORDS], gap: u16)
     ensures { monitor_of m.new ≡ set_sv_max_smp_cnt_gap (monitor_of m.old) gap }
 {
@@ -79,6 +81,7 @@ pub fn set_retx_schedule_on(m: &mut [u64; WORDS], schedule: RetxSchedule, enforc
 }
 
 // How many seconds a clock may go ahead from one frame to the next; 0 for any. Going back always alerts.
+#[tactic(auto, unfolding(crate::specs::Settings::setting_set, crate::specs::Settings::set_time_max_forward_jump))]
 pub fn set_time_max_forward_jump_s_on(m: &mut [u64; WORDS], seconds: u32)
     ensures { monitor_of m.new ≡ set_time_max_forward_jump (monitor_of m.old) seconds }
 {

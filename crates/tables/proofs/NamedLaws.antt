@@ -1,9 +1,9 @@
--- Laws of tables by name: words stored at once, and the ways that a comparison of keys goes.
-use Rattle.std.proofs.Common.{◌≡◌, ℕ, ◌+◌, ◌-◌, ◌*◌, ◌<◌, ◌≤◌, Bool, false, List, ◌++◌, length, get_or, take, drop, sym, ap, ◌∙◌, arith, length-append, length-drop, length-take-le, get_or-append-add, get_or-drop, get_or-take, ext_get_or, le-ltb, lt-ltb, eq-eqb, ne_eqb}
+-- Laws of tables by name: words stored at once, and a comparison of keys that comes to the name.
+use Rattle.std.proofs.Common.{◌≡◌, ℕ, ◌+◌, ◌-◌, ◌*◌, ◌<◌, ◌≤◌, Bool, List, ◌++◌, length, get_or, take, drop, sym, ap, ◌∙◌, arith, length-append, length-drop, length-take-le, get_or-append-add, get_or-drop, get_or-take, ext_get_or, lt-ltb, eq-eqb}
 use native.Mathlib.Decide.{dec_lt}
 use borrow.Rule.Slice.PartMut.{put_mid}
 use lib.ListN.{get_or-append}
-use Rattle.records.proofs.Booleans.{and_yes, and_no}
+use Rattle.records.proofs.Booleans.{and_yes}
 use Rattle.records.proofs.NameLaws.{length_overwritten, overwritten_in, overwritten_out}
 use Rattle.records.specs.Octets.{agree, overwritten}
 use Rattle.tables.specs.Named.{has_key}
@@ -60,27 +60,11 @@ words_from l start n h = (
   λ k w. get_or-take n (drop start l) k 0 w ∙ get_or-drop start l k 0,
 )
 
--- the ways that a comparison of keys goes
-module _ (start : ℕ) (t key : List ℕ) (slot : ℕ) where
-  pub key_outside : 16 ≤ slot → false ≡ has_key start t key slot
+-- a comparison of keys that comes to the name
+module _ (start : ℕ) (t key : List ℕ) (slot : ℕ) (h : slot < 16) (e : get_or t (start + slot) 0 ≡ get_or key 0 0) where
+  pub name_decides : {r : Bool} → get_or t (start + 16 + slot) 0 ≡ get_or key 1 0
+      → r ≡ agree (λ k. get_or t (start + 32 + slot * 8 + k) 0) (λ k. get_or key (k + 2) 0) 8 → r ≡ has_key start t key slot
   unfolding has_key
-  key_outside h = sym (and_no _ (le-ltb slot 16 h))
-
-  module _ (h : slot < 16) where
-    pub sum_differs : (get_or t (start + slot) 0 ≡ get_or key 0 0 → ⊥) → false ≡ has_key start t key slot
-    unfolding has_key
-    sum_differs d = sym (and_yes (lt-ltb slot 16 h) (and_no _ (ne_eqb (get_or t (start + slot) 0) (get_or key 0 0) d)))
-
-    module _ (e : get_or t (start + slot) 0 ≡ get_or key 0 0) where
-      pub length_differs : (get_or t (start + 16 + slot) 0 ≡ get_or key 1 0 → ⊥) → false ≡ has_key start t key slot
-      unfolding has_key
-      length_differs d =
-          sym (and_yes (lt-ltb slot 16 h) (and_yes (eq-eqb (get_or t (start + slot) 0) (get_or key 0 0) e)
-          (and_no _ (ne_eqb (get_or t (start + 16 + slot) 0) (get_or key 1 0) d))))
-
-      pub name_decides : {r : Bool} → get_or t (start + 16 + slot) 0 ≡ get_or key 1 0
-          → r ≡ agree (λ k. get_or t (start + 32 + slot * 8 + k) 0) (λ k. get_or key (k + 2) 0) 8 → r ≡ has_key start t key slot
-      unfolding has_key
-      name_decides l q =
-          sym (and_yes (lt-ltb slot 16 h) (and_yes (eq-eqb (get_or t (start + slot) 0) (get_or key 0 0) e)
-          (and_yes (eq-eqb (get_or t (start + 16 + slot) 0) (get_or key 1 0) l) (sym q))))
+  name_decides l q =
+      sym (and_yes (lt-ltb slot 16 h) (and_yes (eq-eqb (get_or t (start + slot) 0) (get_or key 0 0) e)
+      (and_yes (eq-eqb (get_or t (start + 16 + slot) 0) (get_or key 1 0) l) (sym q))))

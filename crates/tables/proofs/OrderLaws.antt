@@ -209,9 +209,6 @@ module _ (old word place w : ℕ) (o : old < 128) (h : place < 8) (e : w ≡ pac
       → out ≡ packed (λ j. cond (own && eqb j place) 0 (raised old (rank_in word j))) 8
   used_own t q = q ∙ rw t (packed_same _ _ 8 (λ j l. ap (λ (r : ℕ). cond (eqb j place) 0 r) (raised_octet j l)))
 
-  pub used_other : {own : Bool} → own ≡ false → w ≡ packed (λ j. cond (own && eqb j place) 0 (raised old (rank_in word j))) 8
-  used_other t = rw t e
-
 module _ (t : List ℕ) (s : ℕ) where
   pub use_outside : 16 ≤ s → t ≡ used_slot t s
   unfolding used_slot

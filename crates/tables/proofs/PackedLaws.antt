@@ -101,11 +101,6 @@ unfolding packed
 packed_last f = record { short = omega arith; octets = refl }
 
 module _ (f : ℕ → ℕ) {k out : ℕ} (p : PackedFrom f k out) where
-  pub packed_all : k ≤ 0 → out ≡ packed f 8
-  packed_all h =
-      let z : k ≡ 0 = omega arith in
-      (rw z at p.octets) ∙ packed_same (λ j. f (0 + j)) f 8 (λ j l. ap f (omega arith))
-
   -- the octet before them
   module _ (h : 0 < k) {first : ℕ} (e : first ≡ f (k - 1)) where
     pub packed_next : PackedFrom f (k - 1) (first + 256 * out)

@@ -4,7 +4,7 @@ ghost use Rattle.tables.specs.Place.{KeyColumns, KeyLaws, found, entered};
 
 use crate::order::{new_slot, rank_at, use_slot};
 
-// The slot, and whether it had the key before.
+// The slot, and whether it had the key before: there is one in both cases, so it is no Option.
 #[derive(Clone, Copy)]
 pub struct Place {
     pub slot: usize,

@@ -16,4 +16,5 @@ returns-in_err-add_answer c =
 
 pub returns : goal.returns
 unfolding sv_added
-returns c = added_rule _ _ _ _ c.add_answer.ensures c.in_ok-add_answer.was (c.store_sv_publisher.ensures ∙ rw (c.rule_count.ensures, c.publisher_key-key.ensures))
+returns c = added_rule _ _ _ _ c.add_answer.ensures c.in_ok-add_answer.was
+    (c.store_sv_publisher.ensures ∙ rw (c.rule_count.ensures, c.publisher_key-key.ensures))

@@ -19,7 +19,8 @@ returns-then-flag_on c = let a = c.args in
 
 pub returns-in-Err-WrongAddress : goal.returns-in-Err-WrongAddress
 returns-in-Err-WrongAddress c = let a = c.args in
-    rule_matched (monitor_of a.m.now) a.address a.svid.now (Err WrongAddress) c.sv_publisher_on.ensures (c.in-Err-WrongAddress.is ∙ ap Err c.in-Err-WrongAddress.field-0-is)
+    rule_matched (monitor_of a.m.now) a.address a.svid.now (Err WrongAddress) c.sv_publisher_on.ensures
+    (c.in-Err-WrongAddress.is ∙ ap Err c.in-Err-WrongAddress.field-0-is)
 
 pub returns-else-flag_on : goal.returns-else-flag_on
 returns-else-flag_on c = let a = c.args in

@@ -7,11 +7,10 @@ use Rattle.monitor.specs.Parts.{sv_added_on}
 use Rattle.monitor.specs.Monitor.{monitor_of}
 use Rattle.entries.proofs.iec61850_monitor.Iec61850Monitor.add_sv_publisher.Goals as goal
 
-pub returns : goal.returns
-returns c =
+pub returns-clause-numbers : goal.returns-clause-numbers
+returns-clause-numbers c =
     let a = c.args in
-    let both = answer_has (AddNumbers _ _)
+    (answer_has (AddNumbers _ _)
     (c.add_sv_publisher_on-answer.ensures
     ∙ ap (λ (address : ℕ). sv_added_on (monitor_of a.self.words) address a.svid.now a.expected_smp_rate) c.address_of.ensures)
-    ((refusal_numbers _).2 _ _ _) in
-    record { value = both.0; numbers = both.1 }
+    ((refusal_numbers _).2 _ _ _)).1
