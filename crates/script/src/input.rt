@@ -82,24 +82,17 @@ impl<'a> Input<'a> {
         self.start = self.searched;
     }
 
-    // Reads once, and answers how many octets came: 0 at the end of the input, and where the read failed. A pipe gives what it has.
-    fn read_some(&mut self, stdin: Stdin) -> usize {
-        let mut reader = stdin;
-        let rest = self.filled;
-        let got = reader.read(&mut self.buffer[rest..]).unwrap_or(0);
-        self.filled = rest + got;
-        got
-    }
-
-    // Reads more of the line whose line feed was not found, which is moved to the start of the buffer. Where nothing comes, the input has ended, or
-    // the line is too long for the buffer.
-    pub fn refill(&mut self, stdin: Stdin) {
+    // Reads more of the line whose line feed was not found, which is moved to the start of the buffer. A pipe gives what it has. Where nothing
+    // comes, the input has ended, the read has failed, or the line is too long for the buffer.
+    pub fn refill(&mut self, mut stdin: Stdin) {
         if self.start > 0 {
             self.buffer.copy_within(self.start..self.filled, 0);
         }
-        self.filled -= self.start;
-        self.searched = self.filled;
+        let rest = self.filled - self.start;
+        let got = stdin.read(&mut self.buffer[rest..]).unwrap_or(0);
         self.start = 0;
-        self.ended = self.read_some(stdin) == 0;
+        self.searched = rest;
+        self.filled = rest + got;
+        self.ended = got == 0;
     }
 }
