@@ -5,6 +5,7 @@ use crate::calls::Call;
 use crate::line::{LineError, read_line};
 use std::io::{Read, Stdin};
 use text::put::OctetWriter;
+use text::words::skip_blocks;
 
 // Where the next line begins in the buffer, how far it was searched for its line feed, and where the octets that were read end; whether the
 // input has ended.
@@ -20,24 +21,11 @@ pub struct Input<'a> {
     ghost in_bounds: { filled ≤ length buffer.now },
 }
 
-// Whether there is a line feed in a block. All octets are looked at, so that they can be at once. Not by `contains`, which is a call for each
-// block: a line of SV takes 125 instructions more.
-fn has_line_feed(block: &[u8; 16]) -> bool {
-    block
-        .iter()
-        .fold(false, |found, octet| found | (*octet == b'\n'))
-}
-
 // The place of the first line feed, the end if there is none.
 fn line_feed(part: &[u8]) -> usize
     ensures { result ≤ length part.now }
 {
-    let (blocks, _) = part.as_chunks::<16>();
-    let start = 16
-        * blocks
-            .iter()
-            .take_while(|block| !has_line_feed(*block))
-            .count();
+    let start = skip_blocks(part, |octet| octet == b'\n');
     match part[start..].iter().position(|octet| *octet == b'\n') {
         Some(n) => start + n,
         None => part.len(),
