@@ -5,6 +5,7 @@ use crate::calls::Call;
 use crate::line::{LineError, read_line};
 use std::io::{Read, Stdin};
 use text::put::OctetWriter;
+use text::words::skip_blocks;
 
 // Where the next line begins in the buffer, how far it was searched for its line feed, and where the octets that were read end; whether the
 // input has ended.
@@ -20,23 +21,11 @@ pub struct Input<'a> {
     ghost in_bounds: { filled ≤ length buffer.now },
 }
 
-// Whether there is a line feed in a block. All octets are looked at, so that they can be at once.
-fn has_line_feed(block: &[u8; 16]) -> bool {
-    block
-        .iter()
-        .fold(false, |found, octet| found | (*octet == b'\n'))
-}
-
 // The place of the first line feed, the end if there is none.
 fn line_feed(part: &[u8]) -> usize
     ensures { result ≤ length part.now }
 {
-    let (blocks, _) = part.as_chunks::<16>();
-    let start = 16
-        * blocks
-            .iter()
-            .take_while(|block| !has_line_feed(*block))
-            .count();
+    let start = skip_blocks(part, |octet| octet == b'\n');
     match part[start..].iter().position(|octet| *octet == b'\n') {
         Some(n) => start + n,
         None => part.len(),
@@ -82,24 +71,17 @@ impl<'a> Input<'a> {
         self.start = self.searched;
     }
 
-    // Reads once, and answers how many octets came: 0 at the end of the input, and where the read failed. A pipe gives what it has.
-    fn read_some(&mut self, stdin: Stdin) -> usize {
-        let mut reader = stdin;
-        let rest = self.filled;
-        let got = reader.read(&mut self.buffer[rest..]).unwrap_or(0);
-        self.filled = rest + got;
-        got
-    }
-
-    // Reads more of the line whose line feed was not found, which is moved to the start of the buffer. Where nothing comes, the input has ended, or
-    // the line is too long for the buffer.
-    pub fn refill(&mut self, stdin: Stdin) {
+    // Reads more of the line whose line feed was not found, which is moved to the start of the buffer. A pipe gives what it has. Where nothing
+    // comes, the input has ended, the read has failed, or the line is too long for the buffer.
+    pub fn refill(&mut self, mut stdin: Stdin) {
         if self.start > 0 {
             self.buffer.copy_within(self.start..self.filled, 0);
         }
-        self.filled -= self.start;
-        self.searched = self.filled;
+        let rest = self.filled - self.start;
+        let got = stdin.read(&mut self.buffer[rest..]).unwrap_or(0);
         self.start = 0;
-        self.ended = self.read_some(stdin) == 0;
+        self.searched = rest;
+        self.filled = rest + got;
+        self.ended = got == 0;
     }
 }

@@ -1,5 +1,5 @@
-// Stores an argument of a call, by its kind. Each function answers the place behind the argument's word in its line, or that it is stored, unless
-// the word is malformed; numbers stand most significant octet first.
+// Stores an argument of a call, by its kind. A malformed word is answered by `None`, whatever was stored of it. Numbers stand most significant
+// octet first.
 ghost use Rattle.std.specs.Prelude.{◌≡◌, ◌+◌, ◌≤◌, length, IfSome};
 
 use crate::calls::Kind;
@@ -37,7 +37,7 @@ fn digits_value(line: &[u8], word: usize, read: Digits) -> Option<u64>
     Some(read.value)
 }
 
-// A number of n octets, whose word begins at a place of a line.
+// A number of n octets, whose word begins at a place of a line: the place behind the word.
 fn store_number(line: &[u8], word: usize, n: usize, arguments: &mut OctetWriter) -> Option<usize>
     requires word_in_bounds { word ≤ length line.now }
     requires n_is_width { (1 ≤ n) × (n ≤ 8) }
@@ -109,7 +109,7 @@ fn store_name(word: &[u8], arguments: &mut OctetWriter) -> Option<()>
     Some(())
 }
 
-// An argument of a kind that is no number's. Its word begins at a place of a line.
+// An argument of a kind that is no number's. Its word begins at a place of a line; answers the place behind it.
 fn store_word(kind: Kind, line: &[u8], at: usize, arguments: &mut OctetWriter) -> Option<usize>
     requires { at ≤ length line.now }
     ensures place { IfSome result (λ from. from ≤ length line.now) }
@@ -128,7 +128,7 @@ fn store_word(kind: Kind, line: &[u8], at: usize, arguments: &mut OctetWriter) -
     Some(end)
 }
 
-// An argument of a kind. Its word begins at a place of a line.
+// An argument of a kind. Its word begins at a place of a line; answers the place behind it.
 pub fn store_argument(
     kind: Kind,
     line: &[u8],
