@@ -6,24 +6,13 @@ use records::alert::CodedAlert;
 use records::result::InspectResult;
 use text::put::OctetWriter;
 
-// Whether a slot is as a clean result of a source type has it.
-fn is_unused(slot: &CodedAlert, source_type: u8) -> bool {
-    let alert = &slot.alert;
-    alert.id == 0
-        && alert.timestamp_us == 0
-        && alert.source_id == 0
-        && alert.source_type == source_type
-        && alert.severity.number() == 0
-        && slot.code.code() == 0
-        && alert.payload_hash == [0; 32]
-}
-
-// Whether each slot behind the alerts of a result is unused.
+// Whether each slot behind the alerts of a result is as a clean result has it.
 fn rest_is_unused(res: &InspectResult) -> bool {
+    let unused = CodedAlert::none(res.source_type);
     res.alerts
         .iter()
         .skip(usize::from(res.alert_count))
-        .all(|slot| is_unused(slot, res.source_type))
+        .all(|slot| *slot == unused)
 }
 
 // Puts an alert with its code, and whether its hash has an octet other than 0.

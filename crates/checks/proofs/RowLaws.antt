@@ -1,25 +1,16 @@
 -- The rows of numbers of the checks' answers are injective.
 use Prim.Native.Nat.{ℕ}
 use mathlib.Core.List.{List, [], ◌∷◌}
-use mathlib.Core.Path.{◌≡◌, refl, ap}
+use mathlib.Core.Path.{◌≡◌, refl}
 use lib.ListN.{get_or}
 use Rattle.std.specs.Prelude.{Result, Ok, Err}
 use Rattle.records.proofs.NumberLaws.{read_back}
-use Rattle.records.proofs.RowLaws.{error_row_injective}
-use Rattle.records.specs.declared.error.VsError.{VsError}
 use Rattle.checks.specs.declared.sv_publisher.PublisherMismatch.{PublisherMismatch}
 use Rattle.checks.specs.declared.sv_publisher.PublisherMismatch.TheVariants.{NotRegistered, WrongAddress}
 use Rattle.checks.specs.declared.sv_seq.SvSeqOutcome.{SvSeqOutcome}
 use Rattle.checks.specs.declared.sv_seq.SvSeqOutcome.TheVariants.{FirstSeen, Replay, ForwardGap, CycleWrap, SuspiciousSmpGap}
-use Rattle.checks.specs.Rules.{added_row}
 use Rattle.checks.specs.SvPublisher.{publisher_match_row}
 use Rattle.checks.specs.SvSeq.{outcome_row}
-
-pub added_row_injective : (a b : Result (Unit {0}) VsError) → added_row a ≡ added_row b → a ≡ b
-added_row_injective (Ok u) (Ok v) e = refl
-added_row_injective (Ok u) (Err y) e = cc
-added_row_injective (Err x) (Ok v) e = cc
-added_row_injective (Err x) (Err y) e = ap Err (error_row_injective x y e)
 
 pub publisher_match_row_injective : (a b : Result ℕ PublisherMismatch) → publisher_match_row a ≡ publisher_match_row b → a ≡ b
 publisher_match_row_injective (Err NotRegistered) (Err NotRegistered) e = refl

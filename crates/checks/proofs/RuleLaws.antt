@@ -13,7 +13,8 @@ use Rattle.records.specs.Search.{last_below, is_found}
 use Rattle.std.specs.Int.{from_bool}
 use Rattle.std.specs.Prelude.{Result, Ok, Err, Option, Some, None}
 use Rattle.checks.specs.Keys.{flag_word}
-use Rattle.checks.specs.Rules.{added_row, add_answer, AddNumbers, rule_added}
+use Rattle.records.specs.Row.{answer_row}
+use Rattle.checks.specs.Rules.{add_answer, AddNumbers, rule_added}
 use Rattle.checks.specs.SvPublisher.{match_at}
 
 -- ---- an add call
@@ -34,7 +35,7 @@ module _ (count len : ℕ) where
 
   pub add_numbers : AddNumbers count len (add_answer count len)
   add_numbers =
-      record { full = λ h. ap added_row (list_full h); long = λ h l. ap added_row (name_long h l); fits = λ h l. ap added_row (rule_fits h l) }
+      record { full = λ h. ap answer_row (list_full h); long = λ h l. ap answer_row (name_long h l); fits = λ h l. ap answer_row (rule_fits h l) }
 
 abbrev is_rule : Result (Unit {0}) VsError → Bool
 is_rule (Ok u) = true

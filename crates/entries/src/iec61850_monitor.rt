@@ -2,7 +2,7 @@
 // value in and out. Each call is made on the words where they stand.
 ghost use Rattle.std.specs.Prelude.{◌≡◌, true, false, length};
 ghost use Rattle.records.specs.Row.{ValuesOr};
-ghost use Rattle.sv_frame.specs.Sv.{parsed_row};
+ghost use Rattle.records.specs.Row.{answer_row};
 ghost use Rattle.checks.specs.GoosePublisher.{goose_publisher_count};
 ghost use Rattle.checks.specs.MmsRule.{mms_rule_count};
 ghost use Rattle.checks.specs.Rules.{AddNumbers};
@@ -43,27 +43,11 @@ pub struct Iec61850Monitor {
     pub words: [u64; WORDS],
 }
 
-// Three structs and not one over the answer: each names what the call returns as the source does.
-
-// The monitor after an add call, with the answer.
+// The monitor after a call, with what it answers.
 #[derive(Clone, Copy)]
-pub struct Configured {
+pub struct Answered<A> {
     pub monitor: Iec61850Monitor,
-    pub answer: Result<(), VsError>,
-}
-
-// The monitor after an inspection, with the result.
-#[derive(Clone, Copy)]
-pub struct Inspected {
-    pub monitor: Iec61850Monitor,
-    pub result: InspectResult,
-}
-
-// The monitor after a raw SV frame, with the result; a frame that cannot be read leaves the monitor, and is not allowed.
-#[derive(Clone, Copy)]
-pub struct RawInspected {
-    pub monitor: Iec61850Monitor,
-    pub raw: RawSv,
+    pub answer: A,
 }
 
 // A monitor without rules, strict or not.
@@ -112,27 +96,27 @@ impl Iec61850Monitor {
         service_mask: u16,
         read_only: bool,
         max_rate_per_sec: u16,
-    ) -> Configured
+    ) -> Answered<Result<(), VsError>>
         ensures value { record { monitor = monitor_of result.monitor.words; answer = result.answer }
             ≡ mms_added_on (monitor_of self.words) service_mask read_only max_rate_per_sec }
         ensures numbers { AddNumbers (mms_rule_count (monitor_of self.words).mms_rules) 0 result.answer }
     {
         let answer = add_mms_rule_on(&mut self.words, service_mask, read_only, max_rate_per_sec);
-        Configured {
+        Answered {
             monitor: self,
             answer,
         }
     }
 
     // Adds a GOOSE publisher; an empty name fits any control block of the address.
-    pub fn add_goose_publisher(mut self, src_mac: [u8; 6], go_cb_ref: &[u8]) -> Configured
+    pub fn add_goose_publisher(mut self, src_mac: [u8; 6], go_cb_ref: &[u8]) -> Answered<Result<(), VsError>>
         ensures value { record { monitor = monitor_of result.monitor.words; answer = result.answer }
             ≡ goose_added_on (monitor_of self.words) (address_of src_mac) go_cb_ref.now }
         ensures numbers { AddNumbers (goose_publisher_count (monitor_of self.words).goose_publishers) (length go_cb_ref.now)
             result.answer }
     {
         let answer = add_goose_publisher_on(&mut self.words, address_of(src_mac), go_cb_ref);
-        Configured {
+        Answered {
             monitor: self,
             answer,
         }
@@ -144,7 +128,7 @@ impl Iec61850Monitor {
         src_mac: [u8; 6],
         svid: &[u8],
         expected_smp_rate: u16,
-    ) -> Configured
+    ) -> Answered<Result<(), VsError>>
         ensures value { record { monitor = monitor_of result.monitor.words; answer = result.answer }
             ≡ sv_added_on (monitor_of self.words) (address_of src_mac) svid.now expected_smp_rate }
         ensures numbers { AddNumbers (sv_publisher_count (monitor_of self.words).sv_publishers) (length svid.now) result.answer }
@@ -155,7 +139,7 @@ impl Iec61850Monitor {
             svid,
             expected_smp_rate,
         );
-        Configured {
+        Answered {
             monitor: self,
             answer,
         }
@@ -232,49 +216,48 @@ impl Iec61850Monitor {
     }
 
     // The monitor after an MMS frame, and the result.
-    pub fn inspect_mms(mut self, frame: MmsFrame) -> Inspected
-        ensures { record { monitor = monitor_of result.monitor.words; answer = result.result } ≡ inspect_mms (monitor_of self.words) frame }
+    pub fn inspect_mms(mut self, frame: MmsFrame) -> Answered<InspectResult>
+        ensures { record { monitor = monitor_of result.monitor.words; answer = result.answer } ≡ inspect_mms (monitor_of self.words) frame }
     {
-        let result = inspect_mms_on(&mut self.words, frame);
-        Inspected {
+        let answer = inspect_mms_on(&mut self.words, frame);
+        Answered {
             monitor: self,
-            result,
+            answer,
         }
     }
 
     // The monitor after a GOOSE frame, and the result.
-    pub fn inspect_goose(mut self, frame: GooseFrame) -> Inspected
-        ensures { record { monitor = monitor_of result.monitor.words; answer = result.result } ≡ inspect_goose (monitor_of self.words) frame }
+    pub fn inspect_goose(mut self, frame: GooseFrame) -> Answered<InspectResult>
+        ensures { record { monitor = monitor_of result.monitor.words; answer = result.answer } ≡ inspect_goose (monitor_of self.words) frame }
     {
-        let result = inspect_goose_on(&mut self.words, frame);
-        Inspected {
+        let answer = inspect_goose_on(&mut self.words, frame);
+        Answered {
             monitor: self,
-            result,
+            answer,
         }
     }
 
     // The monitor after an SV frame, and the result.
-    pub fn inspect_sv(mut self, frame: SvFrame) -> Inspected
-        ensures { record { monitor = monitor_of result.monitor.words; answer = result.result } ≡ inspect_sv (monitor_of self.words) frame }
+    pub fn inspect_sv(mut self, frame: SvFrame) -> Answered<InspectResult>
+        ensures { record { monitor = monitor_of result.monitor.words; answer = result.answer } ≡ inspect_sv (monitor_of self.words) frame }
     {
-        let result = inspect_sv_on(&mut self.words, frame);
-        Inspected {
+        let answer = inspect_sv_on(&mut self.words, frame);
+        Answered {
             monitor: self,
-            result,
+            answer,
         }
     }
 
     // The monitor after a raw SV frame, and the result.
-    pub fn inspect_raw_sv(self, bytes: &[u8], timestamp_us: u64) -> RawInspected
-        ensures value { record { monitor = monitor_of result.monitor.words; answer = result.raw }
+    pub fn inspect_raw_sv(mut self, bytes: &[u8], timestamp_us: u64) -> Answered<RawSv>
+        ensures value { record { monitor = monitor_of result.monitor.words; answer = result.answer }
             ≡ inspect_raw_sv (monitor_of self.words) bytes.now timestamp_us }
-        ensures numbers { ValuesOr 9 (parsed_row result.raw.answer) }
+        ensures numbers { ValuesOr 9 (answer_row result.answer.answer) }
     {
-        let mut out = self;
-        let raw = inspect_raw_sv_on(&mut out.words, bytes, timestamp_us);
-        RawInspected {
-            monitor: out,
-            raw: raw,
+        let answer = inspect_raw_sv_on(&mut self.words, bytes, timestamp_us);
+        Answered {
+            monitor: self,
+            answer,
         }
     }
 }

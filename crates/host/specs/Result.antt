@@ -13,7 +13,7 @@ use Rattle.inspection.specs.declared.inspect_sv.RawSv.{RawSv}
 use Rattle.host.specs.declared.result.HostAlert.{HostAlert}
 use Rattle.host.specs.declared.result.HostResult.{HostResult}
 use Rattle.host.specs.declared.result.HostParsed.{HostParsed}
-use Rattle.host.specs.Flag.{flag_number, no_error, parsed_error}
+use Rattle.host.specs.Flag.{flag_number, no_error, answer_error}
 
 -- an alert with its severity and its code as numbers
 abbrev pub host_alert : CodedAlert → HostAlert
@@ -41,10 +41,10 @@ host_result r =
 
 -- of a raw frame: the result or the verdict, and the error's number
 abbrev pub raw_result : RawSv → HostResult × ℕ
-raw_result s = (host_result s.result, parsed_error s.answer)
+raw_result s = (host_result s.result, answer_error s.answer)
 
 abbrev pub raw_verdict : RawSv → List ℕ × ℕ
-raw_verdict s = (verdict_of s.result, parsed_error s.answer)
+raw_verdict s = (verdict_of s.result, answer_error s.answer)
 
 -- the frame read from octets, and the error's number; the default frame beside an error
 abbrev pub host_parsed : Result SvFrame VsError → HostParsed

@@ -1,6 +1,6 @@
 // Flags and errors as numbers: an exported struct may hold no enum, and a bool of a caller may hold any octet.
 ghost use Rattle.std.specs.Prelude.{◌≡◌};
-ghost use Rattle.host.specs.Flag.{flag_number, added_error, parsed_error};
+ghost use Rattle.host.specs.Flag.{flag_number, answer_error};
 
 use records::error::VsError;
 
@@ -14,19 +14,9 @@ pub fn flag_number(b: bool) -> u8
     if b { 1 } else { 0 }
 }
 
-// The number of an add call's error.
-pub fn added_error(answer: Result<(), VsError>) -> u8
-    ensures { result ≡ added_error answer }
-{
-    match answer {
-        Ok(()) => NO_ERROR,
-        Err(e) => e.number(),
-    }
-}
-
-// The number of a raw frame's error.
-pub fn parsed_error(answer: Result<(), VsError>) -> u8
-    ensures { result ≡ parsed_error answer }
+// The number of an answer's error.
+pub fn answer_error(answer: Result<(), VsError>) -> u8
+    ensures { result ≡ answer_error answer }
 {
     match answer {
         Ok(()) => NO_ERROR,

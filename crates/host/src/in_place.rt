@@ -15,10 +15,10 @@ ghost use Rattle.lent.specs.Goose.{goose_frame_of};
 ghost use Rattle.lent.specs.Mms.{mms_frame_of};
 ghost use Rattle.lent.specs.Sv.{sv_frame_of};
 ghost use Rattle.batch.specs.Batch.{sv_batch};
-ghost use Rattle.host.specs.Flag.{flag_of, flag_number, added_error};
+ghost use Rattle.host.specs.Flag.{flag_of, flag_number, answer_error};
 ghost use Rattle.host.specs.Result.{raw_verdict, answered};
 
-use crate::flag::{added_error, flag_number, parsed_error};
+use crate::flag::{answer_error, flag_number};
 use crate::result::{HostRawVerdict, HostVerdict};
 use batch::inspect_sv_batch;
 use inspection::address::address_of;
@@ -122,10 +122,10 @@ pub extern "C" fn mokyndu_add_mms_rule_in_place(
     max_rate_per_sec: u16,
 ) -> u8
     ensures { record { monitor = monitor_of m.new; answer = result }
-        ≡ answered added_error (mms_added_on (monitor_of m.old) service_mask (flag_of read_only) max_rate_per_sec) }
+        ≡ answered answer_error (mms_added_on (monitor_of m.old) service_mask (flag_of read_only) max_rate_per_sec) }
 {
     let answer = add_mms_rule_on(m, service_mask, read_only != 0, max_rate_per_sec);
-    added_error(answer)
+    answer_error(answer)
 }
 
 // Adds a GOOSE publisher; an empty name fits any control block of the address.
@@ -136,12 +136,12 @@ pub extern "C" fn mokyndu_add_goose_publisher_in_place(
     go_cb_ref: &[u8],
 ) -> u8
     ensures { record { monitor = monitor_of m.new; answer = result }
-        ≡ answered added_error
+        ≡ answered answer_error
         (goose_added_on (monitor_of m.old) (address_of src_mac.now) go_cb_ref.now) }
 {
     let address = *src_mac;
     let answer = add_goose_publisher_on(m, address_of(address), go_cb_ref);
-    added_error(answer)
+    answer_error(answer)
 }
 
 // Binds an svID to an address; a rate of 0 is not compared.
@@ -153,12 +153,12 @@ pub extern "C" fn mokyndu_add_sv_publisher_in_place(
     expected_smp_rate: u16,
 ) -> u8
     ensures { record { monitor = monitor_of m.new; answer = result }
-        ≡ answered added_error
+        ≡ answered answer_error
         (sv_added_on (monitor_of m.old) (address_of src_mac.now) svid.now expected_smp_rate) }
 {
     let address = *src_mac;
     let answer = add_sv_publisher_on(m, address_of(address), svid, expected_smp_rate);
-    added_error(answer)
+    answer_error(answer)
 }
 
 // Inspects an MMS frame, lent as the octets of its struct.
@@ -206,7 +206,7 @@ pub extern "C" fn mokyndu_raw_sv_in_place(
     let verdict = raw.verdict;
     HostRawVerdict {
         verdict: HostVerdict { octets: verdict },
-        error: parsed_error(answer),
+        error: answer_error(answer),
     }
 }
 

@@ -9,7 +9,7 @@ ghost use Rattle.inspection.specs.InspectSv.{inspect_sv, inspect_raw_sv};
 ghost use Rattle.host.specs.Frame.{mms_frame_of, goose_frame_of};
 ghost use Rattle.host.specs.Result.{host_result, raw_result, host_parsed, answered};
 
-use crate::flag::{NO_ERROR, parsed_error};
+use crate::flag::{NO_ERROR, answer_error};
 use crate::frame::{HostGooseFrame, HostMmsFrame};
 use crate::result::{HostInspected, HostParsed, HostRawInspected, HostResult, host_report};
 use entries::iec61850_monitor::Iec61850Monitor;
@@ -88,7 +88,7 @@ pub extern "C" fn mokyndu_inspect_raw_sv(
     HostRawInspected {
         monitor,
         result: HostResult::from(result),
-        error: parsed_error(answer),
+        error: answer_error(answer),
     }
 }
 

@@ -3,14 +3,15 @@ ghost use Rattle.std.specs.Prelude.{◌≡◌};
 ghost use Rattle.records.specs.Result.{clean_result};
 ghost use Rattle.monitor.specs.Monitor.{monitor_of};
 ghost use Rattle.inspection.specs.Report.{alerts_of, ended, reported};
-ghost use Rattle.host.specs.Flag.{added_error};
+ghost use Rattle.host.specs.Flag.{answer_error};
 ghost use Rattle.host.specs.Result.{host_alert, host_result, answered};
 
-use crate::flag::added_error;
-use entries::iec61850_monitor::{Configured, Iec61850Monitor};
+use crate::flag::answer_error;
+use entries::iec61850_monitor::{Answered, Iec61850Monitor};
 use inspection::report::{AlertSource, CheckAlerts, none_found, report_on};
 use monitor::parts::WORDS;
 use records::alert::CodedAlert;
+use records::error::VsError;
 use records::frame::SvFrame;
 use records::result::InspectResult;
 
@@ -157,14 +158,12 @@ pub fn host_report(m: &mut [u64; WORDS], alerts: CheckAlerts, source: AlertSourc
 }
 
 // The answer of an add call in numbers.
-pub fn host_configured(c: Configured) -> HostConfigured
+pub fn host_configured(c: Answered<Result<(), VsError>>) -> HostConfigured
     ensures { record { monitor = monitor_of result.monitor.words; answer = result.error }
-        ≡ answered added_error (record { monitor = monitor_of c.monitor.words; answer = c.answer }) }
+        ≡ answered answer_error (record { monitor = monitor_of c.monitor.words; answer = c.answer }) }
 {
-    let monitor = c.monitor;
-    let answer = c.answer;
     HostConfigured {
-        monitor,
-        error: added_error(answer),
+        monitor: c.monitor,
+        error: answer_error(c.answer),
     }
 }

@@ -7,7 +7,7 @@ ghost use Rattle.monitor.specs.Settings.{set_mms_service_mask, set_mms_read_only
 ghost use Rattle.monitor.specs.Settings.{set_time_max_forward_jump, strict_mode};
 ghost use Rattle.monitor.specs.Totals.{mms_total_inspected, goose_total_inspected, sv_total_inspected, total_alerts};
 ghost use Rattle.inspection.specs.Address.{address_of};
-ghost use Rattle.host.specs.Flag.{flag_of, flag_number, added_error};
+ghost use Rattle.host.specs.Flag.{flag_of, flag_number, answer_error};
 ghost use Rattle.host.specs.Result.{answered};
 
 use crate::flag::flag_number;
@@ -115,7 +115,7 @@ pub extern "C" fn mokyndu_add_mms_rule(
     max_rate_per_sec: u16,
 ) -> HostConfigured
     ensures { record { monitor = monitor_of result.monitor.words; answer = result.error }
-        ≡ answered added_error (mms_added_on (monitor_of monitor.words) service_mask (flag_of read_only) max_rate_per_sec) }
+        ≡ answered answer_error (mms_added_on (monitor_of monitor.words) service_mask (flag_of read_only) max_rate_per_sec) }
 {
     let added = monitor.add_mms_rule(service_mask, read_only != 0, max_rate_per_sec);
     host_configured(added)
@@ -129,7 +129,7 @@ pub extern "C" fn mokyndu_add_goose_publisher(
     go_cb_ref: &[u8],
 ) -> HostConfigured
     ensures { record { monitor = monitor_of result.monitor.words; answer = result.error }
-        ≡ answered added_error (goose_added_on (monitor_of monitor.words) (address_of src_mac.now) go_cb_ref.now) }
+        ≡ answered answer_error (goose_added_on (monitor_of monitor.words) (address_of src_mac.now) go_cb_ref.now) }
 {
     let address = *src_mac;
     let added = monitor.add_goose_publisher(address, go_cb_ref);
@@ -145,7 +145,7 @@ pub extern "C" fn mokyndu_add_sv_publisher(
     expected_smp_rate: u16,
 ) -> HostConfigured
     ensures { record { monitor = monitor_of result.monitor.words; answer = result.error }
-        ≡ answered added_error (sv_added_on (monitor_of monitor.words) (address_of src_mac.now) svid.now expected_smp_rate) }
+        ≡ answered answer_error (sv_added_on (monitor_of monitor.words) (address_of src_mac.now) svid.now expected_smp_rate) }
 {
     let address = *src_mac;
     let added = monitor.add_sv_publisher(address, svid, expected_smp_rate);

@@ -8,7 +8,8 @@ use Rattle.records.specs.declared.frame.SvFrame.{SvFrame}
 use Rattle.records.specs.Octets.{tabulate}
 use Rattle.std.proofs.Common.{Result, Ok, Err}
 use Rattle.records.specs.Row.{ValuesOr}
-use Rattle.sv_frame.specs.Sv.{parsed_row, sv_frame}
+use Rattle.records.specs.Row.{answer_row}
+use Rattle.sv_frame.specs.Sv.{sv_frame}
 use Rattle.sv_frame.proofs.RefusalsHold.{sv_answers}
 use Rattle.tables.specs.Column.{zero_words}
 use Rattle.checks.proofs.RuleLaws.{add_numbers}
@@ -156,7 +157,7 @@ pub raw_refusals : RawRefusals
 unfolding inspect_raw_sv
 raw_refusals m octets time = go (sv_frame octets time) (sv_answers octets time)
   where
-    go : (p : Result SvFrame VsError) → ValuesOr 9 (parsed_row p) → ValuesOr 9 (parsed_row (parsed_inspected m p).answer.answer)
+    go : (p : Result SvFrame VsError) → ValuesOr 9 (answer_row p) → ValuesOr 9 (answer_row (parsed_inspected m p).answer.answer)
     go (Ok f) v = v
     go (Err x) v = v
 

@@ -8,7 +8,8 @@ use Rattle.records.specs.Alert.{source_sv}
 use Rattle.records.specs.Result.{clean_result}
 use Rattle.records.specs.Row.{ValuesOr}
 use Rattle.records.specs.declared.frame.SvFrame.{SvFrame}
-use Rattle.sv_frame.specs.Sv.{parsed_row, sv_frame}
+use Rattle.records.specs.Row.{answer_row}
+use Rattle.sv_frame.specs.Sv.{sv_frame}
 use Rattle.checks.specs.Rules.{AddNumbers}
 use Rattle.checks.specs.GoosePublisher.{goose_publisher_count}
 use Rattle.checks.specs.MmsRule.{mms_rule_count}
@@ -183,7 +184,7 @@ RefusalNumbers =
 
 -- refusal 3 by its number: a raw frame is read, or the error is 9
 abbrev pub RawRefusals : Type 0
-RawRefusals = (m : Monitor) (octets : List ℕ) (time : ℕ) → ValuesOr 9 (parsed_row (inspect_raw_sv m octets time).answer.answer)
+RawRefusals = (m : Monitor) (octets : List ℕ) (time : ℕ) → ValuesOr 9 (answer_row (inspect_raw_sv m octets time).answer.answer)
 
 -- refusals 1 to 3: "changes nothing", "no frame"
 abbrev pub RefusedChangesNothing : Type 0

@@ -24,7 +24,7 @@ fn hear_sv(
     write_part(stdout, b"SV count ", u64::from(count));
     write_part(stdout, b" clock ", u64::from(seconds));
     write_part(stdout, b" heard at ", time_us);
-    write_verdict(stdout, inspected.result);
+    write_verdict(stdout, inspected.answer);
     inspected.monitor
 }
 
@@ -44,7 +44,7 @@ fn hear_goose(
     write_part(stdout, b"GOOSE sqNum ", u64::from(sq_num));
     write_part(stdout, b" clock ", u64::from(seconds));
     write_part(stdout, b" heard at ", time_us);
-    write_verdict(stdout, inspected.result);
+    write_verdict(stdout, inspected.answer);
     inspected.monitor
 }
 
@@ -54,7 +54,7 @@ fn hear_raw(stdout: Stdout, m: Iec61850Monitor, time_us: u64) -> Iec61850Monitor
     let inspected = m.inspect_raw_sv(&octets, time_us);
     write_text(stdout, b"raw frame");
     write_part(stdout, b" heard at ", time_us);
-    write_verdict(stdout, inspected.raw.result);
+    write_verdict(stdout, inspected.answer.result);
     inspected.monitor
 }
 

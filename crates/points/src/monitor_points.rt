@@ -55,7 +55,7 @@ pub fn sv_frame(count: u16) -> SvFrame {
 fn inspect_count(stdout: Stdout, m: Iec61850Monitor, label: &[u8], count: u16) -> Iec61850Monitor {
     let inspected = m.inspect_sv(sv_frame(count));
     write_part(stdout, label, u64::from(count));
-    write_verdict(stdout, inspected.result);
+    write_verdict(stdout, inspected.answer);
     inspected.monitor
 }
 
@@ -107,7 +107,7 @@ fn inspect_raw(
 ) -> Iec61850Monitor {
     let inspected = m.inspect_raw_sv(octets, 7);
     write_text(stdout, label);
-    let raw = inspected.raw;
+    let raw = inspected.answer;
     let answer = raw.answer;
     let result = raw.result;
     match answer {
@@ -158,7 +158,7 @@ fn inspect_state(
     write_part(stdout, b"stNum ", u64::from(st_num));
     write_part(stdout, b" sqNum ", u64::from(sq_num));
     write_part(stdout, b" clock ", u64::from(seconds));
-    write_verdict(stdout, inspected.result);
+    write_verdict(stdout, inspected.answer);
     inspected.monitor
 }
 
@@ -186,7 +186,7 @@ fn mms_frame(raw: u8, name: u8) -> MmsFrame {
 fn inspect_write(stdout: Stdout, m: Iec61850Monitor, label: &[u8]) -> Iec61850Monitor {
     let inspected = m.inspect_mms(mms_frame(2, 1));
     write_text(stdout, label);
-    write_verdict(stdout, inspected.result);
+    write_verdict(stdout, inspected.answer);
     inspected.monitor
 }
 
@@ -201,7 +201,7 @@ fn write_points(stdout: Stdout) {
 fn inspect_select(stdout: Stdout, m: Iec61850Monitor, name: u8) -> Iec61850Monitor {
     let inspected = m.inspect_mms(mms_frame(11, name));
     write_part(stdout, b"SelectControl of name ", u64::from(name));
-    write_verdict(stdout, inspected.result);
+    write_verdict(stdout, inspected.answer);
     inspected.monitor
 }
 

@@ -1,7 +1,7 @@
--- The rows of numbers of a search's answer and of errors are injective.
-use Rattle.std.proofs.Common.{◌≡◌, ℕ, Option, Some, None, refl}
+-- The rows of numbers of a search's answer, of errors and of answers are injective.
+use Rattle.std.proofs.Common.{◌≡◌, ℕ, Option, Some, None, Result, Ok, Err, refl, ap}
 use Rattle.records.specs.declared.error.VsError.{VsError}
-use Rattle.records.specs.Row.{error_row}
+use Rattle.records.specs.Row.{error_row, answer_row}
 use Rattle.records.specs.Search.{found_row}
 use Rattle.records.proofs.NumberLaws.{error_injective}
 
@@ -13,3 +13,9 @@ found_row_injective None None e = refl
 
 pub error_row_injective : (a b : VsError) → error_row a ≡ error_row b → a ≡ b
 error_row_injective a b e = error_injective a b (cc)
+
+pub answer_row_injective : (a b : Result (Unit {0}) VsError) → answer_row a ≡ answer_row b → a ≡ b
+answer_row_injective (Ok x) (Ok y) e = refl
+answer_row_injective (Ok x) (Err y) e = cc
+answer_row_injective (Err x) (Ok y) e = cc
+answer_row_injective (Err x) (Err y) e = ap Err (error_row_injective x y e)

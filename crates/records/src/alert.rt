@@ -86,7 +86,7 @@ impl AlertCode {
     }
 }
 
-// The protocol that an alert or a result is about.
+// The protocol that an alert or a result is about, by its number: `InspectResult::clean` and `CodedAlert::new` take any.
 pub const SOURCE_IEC61850_MMS: u8 = 40;
 
 pub const SOURCE_IEC61850_GOOSE: u8 = 41;
@@ -94,7 +94,7 @@ pub const SOURCE_IEC61850_GOOSE: u8 = 41;
 pub const SOURCE_IEC61850_SV: u8 = 42;
 
 // An alert. Its source number is the frame's invoke id, stNum or smpCnt.
-#[derive(Clone, Copy)]
+#[derive(Clone, Copy, PartialEq, Eq)]
 pub struct SecurityAlert {
     pub id: u64,
     pub timestamp_us: u64,
@@ -105,7 +105,7 @@ pub struct SecurityAlert {
 }
 
 // An alert with its code.
-#[derive(Clone, Copy)]
+#[derive(Clone, Copy, PartialEq, Eq)]
 pub struct CodedAlert {
     pub alert: SecurityAlert,
     pub code: AlertCode,

@@ -1,5 +1,5 @@
-// Octets read at a place, and put into a buffer that is lent, for every reader and writer; the smaller of two numbers.
-ghost use Rattle.std.specs.Prelude.{◌≡◌, ◌+◌, ◌≤◌, min, length};
+// Octets read at a place, and put into a buffer that is lent, for every reader and writer.
+ghost use Rattle.std.specs.Prelude.{◌≡◌, ◌+◌, ◌≤◌, length};
 ghost use Rattle.records.specs.Octets.{octet_at, overwritten};
 
 // The octet at a place, 0 past the end.
@@ -7,13 +7,6 @@ pub fn octet_at(bytes: &[u8], i: usize) -> u8
     ensures { result ≡ octet_at bytes.now i }
 {
     bytes.get(i).copied().unwrap_or(0)
-}
-
-// The smaller of two numbers.
-pub fn least(a: usize, b: usize) -> usize
-    ensures { result ≡ min a b }
-{
-    a.min(b)
 }
 
 // Puts the first `n` octets from a place on, where there is room for them.

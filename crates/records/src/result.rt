@@ -54,6 +54,7 @@ impl InspectResult {
     }
 
     // Adds an alert under the next number. High and Critical deny, also where the four slots are taken and the alert is dropped.
+    // The parameters are the source's.
     #[tactic(auto, unfolding(crate::specs::Result::pushed, crate::specs::Result::with_alert, crate::specs::Result::truncated, crate::specs::Result::counted))]
     pub fn push_alert_with_code(
         self,

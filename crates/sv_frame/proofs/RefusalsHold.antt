@@ -17,7 +17,8 @@ use Rattle.wire.specs.Element.{Elements, ended, failed, next, elements, Sought, 
 use Rattle.sv_frame.specs.Field.{sav_pdu_tag, seq_asdu_tag, asdu_tag, smp_cnt_tag, field_fits, with_field}
 use Rattle.wire.specs.Header.{header}
 use Rattle.sv_frame.specs.Refusals.{FrameOr9, SvRefusals}
-use Rattle.sv_frame.specs.Sv.{parsed_row, fields_from, asdu_frame, seq_asdu_frame, sav_pdu_frame, apdu_frame, header_frame, sv_frame}
+use Rattle.records.specs.Row.{answer_row}
+use Rattle.sv_frame.specs.Sv.{fields_from, asdu_frame, seq_asdu_frame, sav_pdu_frame, apdu_frame, header_frame, sv_frame}
 use Rattle.wire.proofs.ElementLaws.{Contents, FoundOr, Any, any_elements, any_opened, any_first}
 
 refused : {e : VsError} → e ≡ InvalidInput → FrameOr9 (Err e)
@@ -64,5 +65,5 @@ pub by_frame : (octets : List ℕ) (time : ℕ) {r : Result SvFrame VsError} →
 by_frame octets time e = (e, rw e (sv_refusals octets time))
 
 -- the answer alone
-pub sv_answers : (octets : List ℕ) (time : ℕ) → ValuesOr 9 (parsed_row (sv_frame octets time))
+pub sv_answers : (octets : List ℕ) (time : ℕ) → ValuesOr 9 (answer_row (sv_frame octets time))
 sv_answers octets time = ⊎_elim (λ e. inl (ap (λ (row : List ℕ). get_or row 0 0) e)) (λ e. inr e) (sv_refusals octets time)

@@ -5,18 +5,12 @@ use Rattle.records.specs.declared.error.VsError.{VsError}
 use Rattle.records.specs.declared.error.VsError.TheVariants.{InvalidInput}
 use Rattle.records.specs.declared.frame.SvFrame.{SvFrame}
 use Rattle.records.specs.Frame.{default_sv}
-use Rattle.records.specs.Row.{error_row}
 use Rattle.wire.specs.declared.element.Part.{Part}
 use Rattle.wire.specs.declared.header.Header.{Header}
 use Rattle.wire.specs.Element.{Elements, ended, failed, next, elements, Sought, first_content, opened}
 use Rattle.wire.specs.Element.{opened_place, first_place}
 use Rattle.sv_frame.specs.Field.{sav_pdu_tag, seq_asdu_tag, asdu_tag, smp_cnt_tag, field_fits, with_field}
 use Rattle.wire.specs.Header.{ethertype_sv, header}
-
--- the answer as a row: 1, or 0 and the error (01, "Refusals in checking order", 3: 9 for an unreadable frame)
-abbrev pub parsed_row : {T : Type 0} → Result T VsError → List ℕ
-parsed_row (Ok x) = 1 ∷ []
-parsed_row (Err e) = error_row e
 
 -- the fields of an ASDU in their order, from a frame on: of a repeated tag the last wins
 unfoldable pub fields_from : SvFrame → Bool → Elements → Result SvFrame VsError

@@ -2,11 +2,11 @@
 use mathlib.Core.Path.{◌∙◌}
 use Rattle.monitor.specs.Monitor.{monitor_of}
 use Rattle.monitor.specs.Parts.{sv_added_on}
-use Rattle.host.specs.Flag.{added_error}
+use Rattle.host.specs.Flag.{answer_error}
 use Rattle.host.proofs.AnswerLaws.{in_numbers}
 use Rattle.host.proofs.in_place.mokyndu_add_sv_publisher_in_place.Goals as goal
 
 pub returns : goal.returns
 returns c = let a = c.args in
-    in_numbers added_error c.added_error.ensures
+    in_numbers answer_error c.answer_error.ensures
     (c.add_sv_publisher_on-answer.ensures ∙ λ i. sv_added_on (monitor_of a.m.now) (c.address_of.ensures i) a.svid.now a.expected_smp_rate)

@@ -6,4 +6,4 @@ use Rattle.host.proofs.inspect.mokyndu_inspect_raw_sv.Goals as goal
 
 pub returns : goal.returns
 returns c = let i = c.inspect_raw_sv_on-raw in
-    (λ k. record { monitor = monitor_of i.new.m; answer = (c.from.ensures k, c.parsed_error.ensures k) }) ∙ ap (answered raw_result) i.ensures
+    (λ k. record { monitor = monitor_of i.new.m; answer = (c.from.ensures k, c.answer_error.ensures k) }) ∙ ap (answered raw_result) i.ensures
