@@ -7,7 +7,6 @@ ghost use Rattle.tables.specs.Place.{known_of};
 ghost use Rattle.checks.specs.GooseSeq.{numbers_of, numbers_at, replays, goose_replay, outside_tolerance, retx_checked, goose_checked};
 
 use records::schedule::RetxSchedule;
-use tables::column::word;
 use tables::named::VALUES;
 use tables::place::{enter, find};
 

@@ -1,5 +1,4 @@
 // Tables by number: ranks, numbers, values.
-ghost use Rattle.std.specs.Prelude.{◌≡◌, ◌≤◌, length};
 ghost use Rattle.tables.specs.Numbered.{numbered};
 ghost use Rattle.tables.specs.KeyLaws.{numbered_key_laws};
 
