@@ -109,7 +109,11 @@ impl Iec61850Monitor {
     }
 
     // Adds a GOOSE publisher; an empty name fits any control block of the address.
-    pub fn add_goose_publisher(mut self, src_mac: [u8; 6], go_cb_ref: &[u8]) -> Answered<Result<(), VsError>>
+    pub fn add_goose_publisher(
+        mut self,
+        src_mac: [u8; 6],
+        go_cb_ref: &[u8],
+    ) -> Answered<Result<(), VsError>>
         ensures value { record { monitor = monitor_of result.monitor.words; answer = result.answer }
             ≡ goose_added_on (monitor_of self.words) (address_of src_mac) go_cb_ref.now }
         ensures numbers { AddNumbers (goose_publisher_count (monitor_of self.words).goose_publishers) (length go_cb_ref.now)

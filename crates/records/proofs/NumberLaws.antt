@@ -159,9 +159,9 @@ number_back (suc (suc (suc (suc (suc (suc (suc (suc (suc (suc (suc (suc (suc v))
 -- the service of a number that is one of those with numbers
 pub is_service : (v : ℕ) {a b : MmsServiceType} → b ≡ service_of v → b ≡ a → service_number a < 255 → v ≡ service_number a
 is_service v {a} e h known = elim (number_back v) [
-    | inl u ↦ absurd (omega (arith, known, ap service_number (sym h ∙ e ∙ u)))
-    | inr n ↦ sym n ∙ ap service_number (sym e ∙ h)
-  ]
+  | inl u ↦ absurd (omega (arith, known, ap service_number (sym h ∙ e ∙ u)))
+  | inr n ↦ sym n ∙ ap service_number (sym e ∙ h)
+]
 
 -- a number of another service is another number
 pub other_service : (v : ℕ) (a : MmsServiceType) {b : MmsServiceType} → b ≡ service_of v → (b ≡ a → ⊥) → v ≡ service_number a → ⊥
