@@ -54,11 +54,11 @@ pub static CODES: [&str; 43] = [
 pub static SEVERITIES: [&str; 5] = ["Info", "Low", "Medium", "High", "Critical"];
 
 // Puts a space and the name of a number, if it has one.
-pub fn put_name(out: &mut OctetWriter, names: &[&str], number: u8)
+pub fn put_name(out: &mut OctetWriter, names: &[&str], number: usize)
     ensures { length out.new.octets.now ≡ length out.old.octets.now }
 {
     out.append(b" ");
-    if let Some(name) = names.get(usize::from(number)) {
+    if let Some(name) = names.get(number) {
         out.append(name.as_bytes());
     }
 }

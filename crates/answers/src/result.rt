@@ -22,8 +22,8 @@ fn put_alert(out: &mut OctetWriter, slot: &CodedAlert)
     let alert = &slot.alert;
     let code = slot.code.code();
     out.put_number(b" [", u64::from(code));
-    put_name(out, &CODES, code);
-    put_name(out, &SEVERITIES, alert.severity.number());
+    put_name(out, &CODES, usize::from(code));
+    put_name(out, &SEVERITIES, usize::from(alert.severity.number()));
     out.put_number(b" number ", alert.id);
     out.put_number(b" time ", alert.timestamp_us);
     out.put_number(b" from ", u64::from(alert.source_type));

@@ -11,7 +11,7 @@ pub const NO_ERROR: u8 = 255;
 pub fn flag_number(b: bool) -> u8
     ensures { result ≡ flag_number b }
 {
-    if b { 1 } else { 0 }
+    u8::from(b)
 }
 
 // The number of an answer's error.

@@ -139,7 +139,7 @@ pub fn goose_checks_on<'a>(m: &mut [u64; WORDS], name: Name<'a>, n: GooseNumbers
     goose_reservation(m, name, n)
 }
 
-// The hash of a frame's control block.
+// The hash of a frame's control block. No `Name`: the octets of a lent frame are hashed where they stand.
 pub fn name_hash(name: &[u8], len: u8) -> u32
     requires { length name.now ≡ 64 }
     ensures { result ≡ fnv1a (name_of name.now len) }

@@ -39,7 +39,7 @@ pub struct SvNumbers {
     pub smp_rate: u16,
 }
 
-// The result of a raw frame's inspection, with the error where it could not be read.
+// The result of a raw frame's inspection, with the error where it could not be read: there is a result in both cases.
 #[derive(Clone, Copy)]
 pub struct RawSv {
     pub answer: Result<(), VsError>,

@@ -21,7 +21,7 @@ use sv_frame::sv::sv_asdu;
 use wire::element::content;
 use wire::header::{ETHERTYPE_SV, ethernet_header};
 
-// The verdict on a raw frame, with the error where it could not be read.
+// The verdict on a raw frame, with the error where it could not be read: there is a verdict in both cases.
 #[derive(Clone, Copy)]
 pub struct RawVerdict {
     pub answer: Result<(), VsError>,

@@ -104,7 +104,7 @@ pub fn flag_on(m: &[u64; WORDS], place: usize) -> bool
     setting_on(m, place) != 0
 }
 
-// The most that 32 bits hold if a word has more.
+// The most that 32 bits hold if a word has more. This, `word8` and `narrowed` of tables are each one call of their type.
 fn word32(word: u64) -> u32
     ensures { result ≡ min word (2 ^ 32 - 1) }
 {

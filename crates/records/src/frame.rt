@@ -5,6 +5,8 @@ ghost use Rattle.records.specs.Frame.{default_mms, default_goose, default_sv};
 
 use crate::service::MmsServiceType;
 
+// The fields of the frames are the source's, and those of an SV frame C's layout too: a name is two of them.
+
 // An MMS association.
 pub type MmsClientId = u32;
 

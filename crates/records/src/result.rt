@@ -5,7 +5,7 @@ ghost use Rattle.records.specs.Result.{clean_result, allowed_with, pushed};
 
 use crate::alert::{AlertCode, AlertSeverity, CodedAlert};
 
-// The verdict on one frame, with up to four alerts.
+// The verdict on one frame, with up to four alerts. The fields are the source's, and its flags say something in every case.
 #[derive(Clone, Copy)]
 pub struct InspectResult {
     pub allowed: bool,

@@ -18,6 +18,7 @@ pub fn octets_at<const N: usize>(arguments: &[u8], at: usize) -> [u8; N]
     octets
 }
 
+// Numbers of two, four and eight octets: each is one call of its type.
 pub fn u16_at(arguments: &[u8], at: usize) -> u16
     ensures { result ≡ from_be_bytes w16 (octets_from 2 arguments.now at) }
 {

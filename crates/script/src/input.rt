@@ -8,7 +8,7 @@ use text::put::OctetWriter;
 use text::words::skip_blocks;
 
 // Where the next line begins in the buffer, how far it was searched for its line feed, and where the octets that were read end; whether the
-// input has ended.
+// input has ended, which it may have at any of them.
 #[derive(Drop)]
 pub struct Input<'a> {
     buffer: &'a mut [u8],

@@ -12,7 +12,8 @@ use wire::element::{Part, content, first_content, opened};
 use wire::header::{ETHERTYPE_SV, ethernet_header};
 use wire::reader::ElementReader;
 
-// The fields of an ASDU, one after the other, from a frame on, through a reader over the ASDU.
+// The fields of an ASDU, one after the other, from a frame on, through a reader over the ASDU. A turn goes to an element's end, so that no place is
+// counted up.
 pub fn read_fields(asdu: &[u8], frame: SvFrame) -> Result<SvFrame, VsError>
     ensures { result ≡ fields_from frame false (elements asdu.now) }
 {

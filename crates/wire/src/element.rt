@@ -162,7 +162,7 @@ pub fn opened(bytes: &[u8], tag: u8) -> Result<Option<Part>, VsError>
     }))
 }
 
-// The content of the first element with this tag. Nothing after it is read.
+// The content of the first element with this tag. Nothing after it is read. A turn goes to an element's end, so that no place is counted up.
 pub fn first_content(bytes: &[u8], tag: u8) -> Result<Option<Part>, VsError>
     ensures { result ≡ first_place tag 0 (elements bytes.now) }
 {
