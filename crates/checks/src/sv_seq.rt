@@ -20,7 +20,7 @@ pub enum SvSeqOutcome {
 }
 
 impl SvSeqOutcome {
-    // The outcome's number in the order above. A case that has a value is no number to cast.
+    // The outcome's number in the order above. An enum with values has no cast.
     pub fn number(self) -> u8
         ensures { result ≡ outcome_number self }
     {

@@ -1,8 +1,7 @@
 // The monitor, carried over from industrial/iec61850-monitor/src/lib.rs of craton-shield a31d888527 (Apache-2.0) and changed: one array of words, by
 // value in and out. Each call is made on the words where they stand.
 ghost use Rattle.std.specs.Prelude.{◌≡◌, true, false, length};
-ghost use Rattle.records.specs.Row.{ValuesOr};
-ghost use Rattle.records.specs.Row.{answer_row};
+ghost use Rattle.records.specs.Row.{ValuesOr, answer_row};
 ghost use Rattle.checks.specs.GoosePublisher.{goose_publisher_count};
 ghost use Rattle.checks.specs.MmsRule.{mms_rule_count};
 ghost use Rattle.checks.specs.Rules.{AddNumbers};

@@ -1,5 +1,5 @@
 // The inspections by value as C exports: a frame of numbers, or the octets of an SV frame, and the result in numbers. Each inspects on the monitor that
-// it was handed, which is given back.
+// it was handed, and gives it back changed.
 ghost use Rattle.std.specs.Prelude.{◌≡◌};
 ghost use Rattle.sv_frame.specs.Sv.{sv_frame};
 ghost use Rattle.monitor.specs.Monitor.{monitor_of};

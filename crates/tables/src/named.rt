@@ -69,7 +69,7 @@ pub fn store_key(t: &mut [u64], start: usize, slot: usize, key: &[u64; 10])
     store_name(t, start + NAMES + slot * 8, key);
 }
 
-// A key by name stands from word 2 on.
+// The columns of keys by name stand from word 2 on.
 impl Key for [u64; 10] {
     ghost columns = { named };
 

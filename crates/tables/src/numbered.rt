@@ -10,7 +10,7 @@ const NUMBERS: usize = 2;
 
 pub const VALUES: usize = 18;
 
-// A key by number stands from word 2 on.
+// The column of keys by number stands from word 2 on.
 impl Key for u64 {
     ghost columns = { numbered };
 

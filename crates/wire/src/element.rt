@@ -1,5 +1,5 @@
 // Elements (X.690: tag, length, content), carried over from `parse_tlv` and `decode_sv_apdu` in industrial/iec61850-monitor/src/lib.rs
-// of craton-shield a31d888527 (Apache-2.0) and changed: answers carry numbers, and two thin functions give the parts.
+// of craton-shield a31d888527 (Apache-2.0) and changed: answers carry numbers, and `content` and `rest` give the parts.
 ghost use Rattle.std.specs.Prelude.{◌≡◌, ◌≤◌, take, drop};
 ghost use Rattle.wire.specs.Element.{length_of, head_of, within, element, elements, opened_place, first_place};
 ghost use Rattle.wire.specs.LengthCases.{further_octets};

@@ -5,7 +5,7 @@ ghost use Rattle.wire.specs.Number.{big_endian, pair_at, unsigned_int};
 
 use records::octets::octet_at;
 
-// The number in two octets. The place is a `u8`, which a header's places fit, so that the next one cannot overflow.
+// The number in two octets. The place is a `u8`, which a header's places fit, so that its sum with 1 fits.
 pub fn pair_at(bytes: &[u8], i: u8) -> u16
     ensures { result ≡ pair_at bytes.now i }
 {

@@ -1,5 +1,5 @@
-// A reader of elements, which holds what is still unread (01, "an element walk holds the part still unread"). It is thin: each step
-// calls a covered function of `element`.
+// A reader of elements, which holds what is still unread (01, "an element walk holds the part still unread"). Each step only
+// calls `parse_tlv` or `rest` of `element`.
 ghost use Rattle.std.specs.Prelude.{◌≡◌};
 ghost use Rattle.wire.specs.Element.{element};
 ghost use Rattle.wire.specs.Reader.{after_element};

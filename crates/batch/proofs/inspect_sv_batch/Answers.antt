@@ -1,9 +1,6 @@
 -- `inspect_sv_batch` meets its contract. The invariant: the monitor is the one after the frames passed, and their verdicts are written.
-use mathlib.Core.Path.{refl, ap, ◌∙◌}
-use lib.ListN.{length}
 use Rattle.monitor.specs.Monitor.{monitor_of}
-use Rattle.batch.specs.Batch.{sv_batch_of}
-use Rattle.batch.proofs.BatchLaws.{all_passed, none_after, no_verdicts, length_verdicts, after_more, verdicts_more}
+use Rattle.batch.proofs.BatchLaws.{none_after, no_verdicts, after_more, verdicts_more}
 use Rattle.batch.proofs.inspect_sv_batch.Goals as goal
 
 pub loop-i-init : goal.loop-i-init
@@ -20,16 +17,3 @@ loop-i-preserved c =
       after_more m a.frames.now l.i a.verdicts.now l.invariant.0 l.invariant.1 e,
       verdicts_more m a.frames.now l.i a.verdicts.now l.invariant.0 l.invariant.1 e,
     )
-
-pub shape_of-verdicts : goal.shape_of-verdicts
-shape_of-verdicts c =
-    let a = c.args in
-    ap length c.loop-i.invariant.1 ∙ length_verdicts (monitor_of a.m.now) a.frames.now a.verdicts.now c.loop-i.i
-
-pub returns : goal.returns
-returns c =
-    let l = c.loop-i in
-    let a = c.args in
-    let n = all_passed l.auto.i-end c.loop-i-test.false c.batch_count-n.ensures in
-    (λ i. record { monitor = l.invariant.0 i; verdicts = l.invariant.1 i; count = all_passed c.loop-i-test.false l.auto.i-end refl i })
-    ∙ ap (sv_batch_of (monitor_of a.m.now) a.frames.now a.verdicts.now) n

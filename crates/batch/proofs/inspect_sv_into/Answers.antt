@@ -1,8 +1,6 @@
 -- `inspect_sv_into` meets its contract.
 use mathlib.Core.Path.{ap, ◌∙◌}
-use lib.ListN.{length}
 use Rattle.records.proofs.Booleans.{answered}
-use Rattle.records.proofs.NameLaws.{length_overwritten}
 use Rattle.records.specs.Alert.{source_sv}
 use Rattle.monitor.specs.Monitor.{monitor_of}
 use Rattle.inspection.proofs.AlertLaws.{none_noted}
@@ -30,9 +28,3 @@ returns c = let a = c.args in
     (c.noted_on-verdict.ensures source_sv f.smp_cnt f.timestamp_us
     ∙ ap (λ (x : Checked). with_verdict (reported source_sv f.smp_cnt f.timestamp_us x)) c.check_sv_lent-alerts.ensures)
     c.put_verdict-2.ensures
-
-pub shape_of-verdicts-then-none_found : goal.shape_of-verdicts-then-none_found
-shape_of-verdicts-then-none_found c = ap length c.put_verdict.ensures ∙ length_overwritten _ _ _ 8
-
-pub shape_of-verdicts : goal.shape_of-verdicts
-shape_of-verdicts c = ap length c.put_verdict-2.ensures ∙ length_overwritten _ _ _ 8

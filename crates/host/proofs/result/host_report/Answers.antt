@@ -12,8 +12,3 @@ returns-then-none_found c = let a = c.args in
     (λ i. record { monitor = monitor_of a.m.now; answer = c.clean_result.ensures i })
     ∙ ap (result.answered host_result) (none_reported a.source.source_type a.source.source_id a.source.timestamp_us (monitor_of a.m.now) a.alerts refl
     (answered c.none_found.ensures c.if-none_found.true))
-
-pub returns : goal.returns
-returns c =
-    (λ i. record { monitor = monitor_of c.report_on-found.new.m; answer = c.from.ensures i })
-    ∙ ap (result.answered host_result) c.report_on-found.ensures
