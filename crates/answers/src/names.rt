@@ -53,6 +53,13 @@ pub static CODES: [&str; 43] = [
 // The names of the severities by their numbers.
 pub static SEVERITIES: [&str; 5] = ["Info", "Low", "Medium", "High", "Critical"];
 
+// The names that a result is put with, by the numbers of codes and of severities: `CODES` and `SEVERITIES`, or a caller's own.
+#[derive(Clone, Copy)]
+pub struct Names<'a> {
+    pub codes: &'a [&'a str],
+    pub severities: &'a [&'a str],
+}
+
 // Puts a space and the name of a number, if it has one.
 pub fn put_name(out: &mut OctetWriter, names: &[&str], number: usize)
     ensures { length out.new.octets.now ≡ length out.old.octets.now }

@@ -1,7 +1,7 @@
 // The text of a result: every field of it. docs/SCRIPT.md says how they are written.
 ghost use Rattle.std.specs.Prelude.{◌≡◌, length};
 
-use crate::names::{CODES, SEVERITIES, put_name};
+use crate::names::{Names, put_name};
 use records::alert::CodedAlert;
 use records::result::InspectResult;
 use text::put::OctetWriter;
@@ -16,14 +16,14 @@ fn rest_is_unused(res: &InspectResult) -> bool {
 }
 
 // Puts an alert with its code, and whether its hash has an octet other than 0.
-fn put_alert(out: &mut OctetWriter, slot: &CodedAlert)
+fn put_alert(out: &mut OctetWriter, names: Names, slot: &CodedAlert)
     ensures { length out.new.octets.now ≡ length out.old.octets.now }
 {
     let alert = &slot.alert;
     let code = slot.code.code();
     out.put_number(b" [", u64::from(code));
-    put_name(out, &CODES, usize::from(code));
-    put_name(out, &SEVERITIES, usize::from(alert.severity.number()));
+    put_name(out, names.codes, usize::from(code));
+    put_name(out, names.severities, usize::from(alert.severity.number()));
     out.put_number(b" number ", alert.id);
     out.put_number(b" time ", alert.timestamp_us);
     out.put_number(b" from ", u64::from(alert.source_type));
@@ -33,22 +33,22 @@ fn put_alert(out: &mut OctetWriter, slot: &CodedAlert)
 }
 
 // Puts the alerts of a result.
-fn put_alerts(out: &mut OctetWriter, res: &InspectResult)
+fn put_alerts(out: &mut OctetWriter, names: Names, res: &InspectResult)
     ensures { length out.new.octets.now ≡ length out.old.octets.now }
 {
     for slot in res.alerts.iter().take(usize::from(res.alert_count)) {
-        put_alert(out, slot);
+        put_alert(out, names, slot);
     }
 }
 
 // Puts a result: the verdict, the source type, the alerts, and the marks.
-pub fn put_result(out: &mut OctetWriter, res: &InspectResult)
+pub fn put_result(out: &mut OctetWriter, names: Names, res: &InspectResult)
     ensures { length out.new.octets.now ≡ length out.old.octets.now }
 {
     out.append(if res.allowed { b"allowed" } else { b"refused" });
     out.put_number(b" source ", u64::from(res.source_type));
     out.put_number(b" alerts ", u64::from(res.alert_count));
-    put_alerts(out, res);
+    put_alerts(out, names, res);
     out.put_flag(b" unused ", rest_is_unused(res));
     out.put_flag(b" truncated ", res.alerts_truncated);
 }

@@ -1,6 +1,7 @@
 // The calls of a script, each made with its arguments on the monitor's words, and the lines of their answers.
 ghost use Rattle.std.specs.Prelude.{◌≡◌, length};
 
+use answers::names::{CODES, Names, SEVERITIES};
 use answers::queries::{put_parsing, put_query};
 use answers::refusal::put_error;
 use answers::result::put_result;
@@ -20,6 +21,14 @@ use script::arguments::{flag_at, octets_at, rest_at, u16_at, u32_at, u64_at};
 use script::calls::{Addition, Call, Setting};
 use script::frames::{goose_frame, mms_frame, schedule, sv_frame};
 use text::put::OctetWriter;
+
+// The names that results are put with.
+fn names() -> Names<'static> {
+    Names {
+        codes: &CODES,
+        severities: &SEVERITIES,
+    }
+}
 
 // Makes a call that sets the monitor up.
 fn settle(m: &mut [u64; WORDS], setting: Setting, arguments: &[u8]) {
@@ -70,21 +79,21 @@ fn put_added(out: &mut OctetWriter, answer: Result<(), VsError>)
 fn inspect_mms(m: &mut [u64; WORDS], arguments: &[u8], out: &mut OctetWriter)
     ensures { length out.new.octets.now ≡ length out.old.octets.now }
 {
-    put_result(out, &inspect_mms_on(m, mms_frame(arguments)));
+    put_result(out, names(), &inspect_mms_on(m, mms_frame(arguments)));
 }
 
 // Inspects a GOOSE frame, and puts the result.
 fn inspect_goose(m: &mut [u64; WORDS], arguments: &[u8], out: &mut OctetWriter)
     ensures { length out.new.octets.now ≡ length out.old.octets.now }
 {
-    put_result(out, &inspect_goose_on(m, goose_frame(arguments)));
+    put_result(out, names(), &inspect_goose_on(m, goose_frame(arguments)));
 }
 
 // Inspects an SV frame, and puts the result.
 fn inspect_sv(m: &mut [u64; WORDS], arguments: &[u8], out: &mut OctetWriter)
     ensures { length out.new.octets.now ≡ length out.old.octets.now }
 {
-    put_result(out, &inspect_sv_on(m, sv_frame(arguments)));
+    put_result(out, names(), &inspect_sv_on(m, sv_frame(arguments)));
 }
 
 // A time, and the octets of a frame: puts what is read from them, and the result of their inspection.
@@ -94,7 +103,7 @@ fn inspect_raw_sv(m: &mut [u64; WORDS], arguments: &[u8], out: &mut OctetWriter)
     let raw = inspect_raw_sv_on(m, rest_at(arguments, 8), u64_at(arguments, 0));
     put_parsing(out, arguments);
     out.append(b" result ");
-    put_result(out, &raw.result);
+    put_result(out, names(), &raw.result);
 }
 
 // Makes a call, and puts what it answers.

@@ -9,7 +9,7 @@ use calls::make_call;
 use monitor::parts::WORDS;
 use monitor::reset::new_on;
 use script::calls::Call;
-use script::input::Input;
+use script::input::LineReader;
 use std::io::{Stdin, Stdout};
 use text::put::OctetWriter;
 
@@ -18,9 +18,9 @@ use text::put::OctetWriter;
 struct Run<'a> {
     stdin: Stdin,
     stdout: Stdout,
-    input: Input<'a>,
+    lines: LineReader<'a>,
     answers: OctetWriter<'a>,
-    lines: u64,
+    line: u64,
 }
 
 // The run ends: the script has, a line is no call, or the answers were not written.
@@ -38,31 +38,29 @@ impl<'a> Run<'a> {
     // Writes the answers, and reads more.
     fn read_on(&mut self) -> Result<(), Stop> {
         self.write_answers()?;
-        self.input.refill(self.stdin);
+        self.lines.refill(self.stdin);
         Ok(())
     }
 
     // Reads the line that was found. One that is no call ends the run.
     fn read_line(&mut self, arguments: &mut OctetWriter) -> Result<Option<Call>, Stop> {
-        self.lines = self.lines.saturating_add(1);
-        let read = self.input.read_found(arguments);
-        self.input.skip_line();
-        match read {
-            Ok(call) => Ok(call),
-            Err(error) => {
-                put_malformed(&mut self.answers, self.lines, error);
-                Err(Stop)
-            }
-        }
+        self.line = self.line.saturating_add(1);
+        let read = self.lines.read_found(arguments);
+        self.lines.skip_line();
+        let Ok(call) = read else {
+            put_malformed(&mut self.answers, self.line, read);
+            return Err(Stop);
+        };
+        Ok(call)
     }
 
     // Reads the next line if the buffer has all of it: its call, if there is one. If not, reads on.
     fn next_call(&mut self, arguments: &mut OctetWriter) -> Result<Option<Call>, Stop> {
-        if !self.input.find_line() {
+        if !self.lines.find_line() {
             self.read_on()?;
             return Ok(None);
         }
-        if self.input.is_at_end() {
+        if self.lines.is_at_end() {
             return Err(Stop);
         }
         self.read_line(arguments)
@@ -91,9 +89,9 @@ fn main(rt: HostRuntime) {
     let mut run = Run {
         stdin: rt.stdin(),
         stdout: rt.stdout(),
-        input: Input::new(&mut input),
+        lines: LineReader::new(&mut input),
         answers: OctetWriter::new(&mut output),
-        lines: 0,
+        line: 0,
     };
     for _ in 0..u64::MAX {
         if run.turn(&mut words, &mut arguments).is_err() {

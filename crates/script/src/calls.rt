@@ -58,8 +58,13 @@ pub enum Call {
     Ask(Query),
 }
 
-// The calls by their names, with the kinds of their arguments. Those of which a script has most stand first: the search goes in this order.
-static CALLS: [(&str, Call, &[Kind]); 21] = [
+// A call by its name, with the kinds of its arguments.
+pub type NamedCall<'a> = (&'a str, Call, &'a [Kind]);
+
+pub const CALLS_LEN: usize = 21;
+
+// The calls of docs/SCRIPT.md. Those of which a script has most stand first: the search goes in this order.
+pub static CALLS: [NamedCall<'static>; CALLS_LEN] = [
     (
         "inspect_sv",
         InspectSv,
@@ -123,7 +128,12 @@ static CALLS: [(&str, Call, &[Kind]); 21] = [
     ("bucket", Ask(Query::Bucket), &[U16, U16, U64, U64]),
 ];
 
-// The call that a word names, with the kinds of its arguments behind its name.
-pub fn named_call(word: &[u8]) -> Option<&'static (&'static str, Call, &'static [Kind])> {
-    CALLS.iter().find(|(name, _, _)| name.as_bytes() == word)
+// The call of a table that a word names.
+pub(crate) fn call_named<'a>(calls: &'a [NamedCall<'a>], word: &[u8]) -> Option<&'a NamedCall<'a>> {
+    calls.iter().find(|(name, _, _)| name.as_bytes() == word)
+}
+
+// The call of a script that a word names.
+pub fn named_call(word: &[u8]) -> Option<&'static NamedCall<'static>> {
+    call_named(&CALLS, word)
 }

@@ -2,7 +2,7 @@
 // how lines are written.
 ghost use Rattle.std.specs.Prelude.{◌≡◌, ◌≤◌, length};
 
-use crate::calls::{Call, Kind, named_call};
+use crate::calls::{Call, Kind, NamedCall, call_named};
 use crate::store::store_argument;
 use text::put::OctetWriter;
 use text::words::{short_word_end, word_start};
@@ -42,18 +42,35 @@ fn store_arguments(
     Ok(())
 }
 
-// Reads a line: the call, whose arguments are put behind what was, or none, if there is nothing to answer.
+// Reads a line that has a word, which begins at a place.
 // Not inlined: in the loop of `replay`, which has variables enough, its own would not stay in registers.
 #[inline(never)]
-pub fn read_line(line: &[u8], arguments: &mut OctetWriter) -> Result<Option<Call>, LineError>
+fn read_call(
+    calls: &[NamedCall],
+    line: &[u8],
+    start: usize,
+    arguments: &mut OctetWriter,
+) -> Result<Call, LineError>
+    requires { start ≤ length line.now }
+    ensures { length arguments.new.octets.now ≡ length arguments.old.octets.now }
+{
+    let end = short_word_end(line, start);
+    let (_, call, kinds) = call_named(calls, &line[start..end]).ok_or(LineError::UnknownCall)?;
+    store_arguments(*kinds, line, end, arguments)?;
+    Ok(*call)
+}
+
+// Reads a line by a table of calls: the call, whose arguments are put behind what was, or none, if there is nothing to answer.
+pub fn read_line(
+    calls: &[NamedCall],
+    line: &[u8],
+    arguments: &mut OctetWriter,
+) -> Result<Option<Call>, LineError>
     ensures { length arguments.new.octets.now ≡ length arguments.old.octets.now }
 {
     let start = word_start(line, 0);
     if start == line.len() || line[start] == b'#' {
         return Ok(None);
     }
-    let end = short_word_end(line, start);
-    let (_, call, kinds) = named_call(&line[start..end]).ok_or(LineError::UnknownCall)?;
-    store_arguments(*kinds, line, end, arguments)?;
-    Ok(Some(*call))
+    Ok(Some(read_call(calls, line, start, arguments)?))
 }
