@@ -1,5 +1,5 @@
--- Laws of tables by name: words stored at once, and a comparison of keys that comes to the name.
-use Rattle.std.proofs.Common.{◌≡◌, ℕ, ◌+◌, ◌-◌, ◌*◌, ◌<◌, ◌≤◌, Bool, List, ◌++◌, length, get_or, take, drop, sym, ap, ◌∙◌, arith, length-append, length-drop, length-take-le, get_or-append-add, get_or-drop, get_or-take, ext_get_or, lt-ltb, eq-eqb}
+-- Laws of tables by name: the words of two keys that agree, words stored at once, and a comparison of keys that comes to the name.
+use Rattle.std.proofs.Common.{◌≡◌, ℕ, ◌+◌, ◌-◌, ◌*◌, ◌<◌, ◌≤◌, Bool, true, List, ◌++◌, length, get_or, take, drop, sym, ap, ◌∙◌, arith, length-append, length-drop, length-take-le, get_or-append-add, get_or-drop, get_or-take, ext_get_or, lt-ltb, eq-eqb}
 use native.Mathlib.Decide.{dec_lt}
 use borrow.Rule.Slice.PartMut.{put_mid}
 use lib.ListN.{get_or-append}
@@ -7,6 +7,10 @@ use Rattle.records.proofs.Booleans.{and_yes}
 use Rattle.records.proofs.NameLaws.{length_overwritten, overwritten_in, overwritten_out}
 use Rattle.records.specs.Octets.{agree, overwritten}
 use Rattle.tables.specs.Named.{has_key}
+
+-- what agrees up to k agrees up to n, where k is n
+pub agree_upto : (f g : ℕ → ℕ) (k n : ℕ) → agree f g k ≡ true → k ≡ n → true ≡ agree f g n
+agree_upto f g k n e q = sym e ∙ ap (agree f g) q
 
 -- words stored at once, and each
 module _ (l p : List ℕ) (start n : ℕ) (f : ℕ → ℕ) (h : start + n ≤ length l) (z : length p ≡ n) (e : (k : ℕ) → k < n → get_or p k 0 ≡ f k) where
