@@ -1,4 +1,4 @@
--- Laws of rules: an add call's answer and list, and what the rules tell of an svID and an address.
+-- Laws of rules: an add call's answer and list, a rule stored, and what the rules tell of an svID and an address.
 use Prim.Native.Nat.{ℕ, ◌+◌, ◌≤◌, ◌<◌}
 use mathlib.Core.Bool.{Bool, true, false, ◌&&◌, cond}
 use mathlib.Core.List.{List}
@@ -6,16 +6,21 @@ use mathlib.Core.Path.{◌≡◌, refl, ap, sym, ◌∙◌}
 use native.Mathlib.Numerals.{add-one}
 use borrow.Author.Tests.{leb-true, lt-ltb, le-ltb, le-leb, lt-leb}
 use lib.Dec.{ltb, leb}
+use lib.ListN.{set}
 use Rattle.records.proofs.Booleans.{answered}
 use Rattle.records.specs.declared.error.VsError.{VsError}
 use Rattle.records.specs.declared.error.VsError.TheVariants.{ResourceExhausted, InvalidInput}
 use Rattle.records.specs.Search.{last_below, is_found}
+use Rattle.tables.specs.Column.{word_set}
+use Rattle.tables.specs.Named.{key_stored}
 use Rattle.std.specs.Int.{from_bool}
 use Rattle.std.specs.Prelude.{Result, Ok, Err, Option, Some, None}
 use Rattle.checks.specs.Keys.{flag_word}
 use Rattle.records.specs.Row.{answer_row}
 use Rattle.checks.specs.Rules.{add_answer, AddNumbers, rule_added}
-use Rattle.checks.specs.SvPublisher.{match_at}
+use Rattle.checks.specs.GoosePublisher.{with_goose_publisher}
+use Rattle.checks.specs.MmsRule.{with_mms_rule}
+use Rattle.checks.specs.SvPublisher.{match_at, with_sv_publisher}
 
 -- ---- an add call
 
@@ -57,6 +62,22 @@ module _ (count len : ℕ) (new old : List ℕ) {answer : Result (Unit {0}) VsEr
 
   pub added_error_lem : {e : VsError} → answer ≡ Err e → record { rules = old; answer = Err e } ≡ rule_added (add_answer count len) new old
   added_error_lem e = ap (λ a. rule_added a new old) (answered e q)
+
+-- a rule stored, word by word
+pub mms_stored : (t : List ℕ) (i mask : ℕ) (read_only : Bool) (rate : ℕ) {flag : ℕ} {a b c : List ℕ} → a ≡ word_set t 0 i mask → flag ≡ flag_word read_only
+    → b ≡ word_set a 16 i flag → c ≡ word_set b 32 i rate → set c 48 (i + 1) ≡ with_mms_rule t i mask read_only rate
+unfolding with_mms_rule
+mms_stored t i mask read_only rate p f q r = rw (r, q, f, p)
+
+pub goose_stored : (t : List ℕ) (i address : ℕ) (name : List ℕ) {a b : List ℕ} → a ≡ word_set t 0 i address → b ≡ key_stored 16 a i name
+    → set b 176 (i + 1) ≡ with_goose_publisher t i address name
+unfolding with_goose_publisher
+goose_stored t i address name p q = rw (q, p)
+
+pub sv_stored : (t : List ℕ) (i address : ℕ) (svid : List ℕ) (rate : ℕ) {a b c : List ℕ} → a ≡ word_set t 0 i address → b ≡ key_stored 16 a i svid
+    → c ≡ word_set b 176 i rate → set c 192 (i + 1) ≡ with_sv_publisher t i address svid rate
+unfolding with_sv_publisher
+sv_stored t i address svid rate p q r = rw (r, q, p)
 
 -- a flag as the word that its conversion gives
 pub flag_is : (flag : Bool) {word : ℕ} → word ≡ from_bool flag → word ≡ flag_word flag
