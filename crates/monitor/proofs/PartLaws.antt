@@ -102,12 +102,15 @@ module _ (l t : List ℕ) (z : length l ≡ 1148) (k : ℕ) (h : k < 10) (y : le
       }
 
 -- a check of a part that is lent, and comes back
+pub lent : {A C : Type 0} (with_part : List ℕ → Monitor) (part : C → List ℕ) (answer : C → A) {m : Monitor} {c c' : C} → m ≡ with_part (part c) → c ≡ c'
+    → record { monitor = m; answer = answer c } ≡ after with_part part answer c'
+lent with_part part answer {c = c} b e = (λ i. record { monitor = b i; answer = answer c }) ∙ ap (after with_part part answer) e
+
+-- the same of part k of the words
 pub part_checked :
     {A C : Type 0} (k : ℕ) (part : C → List ℕ) (answer : C → A) (l : List ℕ) {c c' : C} → k < 10 → length l ≡ 1148 → length (part c) ≡ size_of k → c ≡ c'
     → record { monitor = monitor_of (put_mid (first_of k) (size_of k) l (part c)); answer = answer c } ≡ after (with_part k (monitor_of l)) part answer c'
-part_checked k part answer l {c = c} h z y e =
-    let b = part_back l (part c) z k h y in
-    (λ i. record { monitor = b i; answer = answer c }) ∙ ap (after (with_part k (monitor_of l)) part answer) e
+part_checked k part answer l {c = c} h z y e = lent (with_part k (monitor_of l)) part answer (part_back l (part c) z k h y) e
 
 -- ---- a word of a part set
 
