@@ -6,7 +6,7 @@ use mathlib.Core.Path.{◌≡◌, refl, sym, ap, ◌∙◌}
 use native.Mathlib.Omega.{arith}
 use borrow.Author.Tests.{lt-ltb, le-ltb}
 use lib.ListN.{length, get_or, set, length-set}
-use Rattle.std.proofs.Common.{Option, Some, None, true≢false, take}
+use Rattle.std.proofs.Common.{Option, Some, None, true≢false, take, take_all}
 use Rattle.std.proofs.lemmas.List.{take_more}
 use Rattle.records.specs.declared.alert.CodedAlert.{CodedAlert}
 use Rattle.records.specs.declared.result.AlertCounters.{AlertCounters}
@@ -24,7 +24,7 @@ use Rattle.inspection.specs.declared.report.CheckAlert.{CheckAlert}
 use Rattle.inspection.specs.declared.report.Noted.{Noted}
 use Rattle.inspection.specs.declared.report.Finding.{Finding}
 use Rattle.inspection.specs.Report.{reported_next, alerts_pushed, pushed_on, ended, reported}
-use Rattle.inspection.specs.Report.{findings_in, alerts_of, none_found, clean_verdict, noted_of, allowed_octet, alert_noted, with_verdict}
+use Rattle.inspection.specs.Report.{finding_of, findings_in, alerts_of, none_found, clean_verdict, noted_of, allowed_octet, alert_noted, with_verdict}
 
 -- ---- the checks' answers
 pub none_found_lem : (l : List (Option CheckAlert)) → none_found l ≡ true → alerts_of l ≡ []
@@ -196,6 +196,28 @@ module _ (source number time : ℕ) where
   noted_pushed counters a h =
       ap (λ (n : Noted). foldl alert_noted n (alerts_of a)) (clean_noted source counters)
       ∙ noted_all (record { result = clean_result source; counters = counters }) (alerts_of a) (let few = at_most_all a in omega (arith, few, h)) refl
+
+-- the alert of one answer noted
+pub none_noted_yet : (n : Noted) (a : Option CheckAlert) → a ≡ None → n ≡ foldl alert_noted n (findings_in a)
+none_noted_yet n a h = ap (λ (x : Option CheckAlert). foldl alert_noted n (findings_in x)) (sym h)
+
+pub one_noted : (n : Noted) (a : Option CheckAlert) {alert : CheckAlert} {r : Noted} → a ≡ Some alert → r ≡ alert_noted n (finding_of alert)
+    → r ≡ foldl alert_noted n (findings_in a)
+one_noted n a h e = e ∙ ap (λ (x : Option CheckAlert). foldl alert_noted n (findings_in x)) (sym h)
+
+-- the alerts of three answers noted one by one
+pub three_noted :
+    (start : Noted) (a : List (Option CheckAlert)) {one two three : Noted}
+    → length a ≡ 3
+    → one ≡ foldl alert_noted start (findings_in (get_or a 0 None))
+    → two ≡ foldl alert_noted one (findings_in (get_or a 1 None))
+    → three ≡ foldl alert_noted two (findings_in (get_or a 2 None))
+    → three ≡ foldl alert_noted start (alerts_of a)
+three_noted start a h x y z =
+    let first = x ∙ one_answer_more alert_noted start a 0 (omega (arith, h)) refl in
+    let second = y ∙ one_answer_more alert_noted start a 1 (omega (arith, h)) first in
+    z ∙ one_answer_more alert_noted start a 2 (omega (arith, h)) second
+    ∙ ap (λ (l : List (Option CheckAlert)). foldl alert_noted start (alerts_of l)) (take_all 3 a (omega (arith, h)))
 
 -- ---- in a monitor
 
