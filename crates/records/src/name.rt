@@ -27,13 +27,15 @@ const PLACES: [u8; 64] = [
 ];
 
 // The octets of a name of this length, zeros behind its end. The places stand in a table so that sixteen octets are done at once: of a
-// comparison with the loop's own number the compiler makes a branch for each octet, 113 instructions a name and not 34.
+// comparison with the loop's own number the compiler makes a branch for each octet, 113 instructions a name and not 34. So it does of octets
+// that are lent and read only behind the test: they are copied first, and a GOOSE frame among publishers takes 482 instructions, not 859.
 pub fn padded(octets: &[u8; 64], len: u8) -> [u8; 64]
     ensures { result ≡ padded octets.now len }
 {
+    let name = *octets;
     let mut out = [0u8; 64];
     for i in 0..64 {
-        out[i] = if PLACES[i] < len { octets[i] } else { 0 };
+        out[i] = if PLACES[i] < len { name[i] } else { 0 };
     }
     out
 }
