@@ -1,4 +1,5 @@
 pub mod SvLaws
 pub mod PlaceLaws
 pub mod SvLegal
+pub mod RowLaws
 pub mod RefusalsHold
