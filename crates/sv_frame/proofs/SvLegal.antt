@@ -1,4 +1,4 @@
--- The frame that octets hold is legal.
+-- The frame that octets hold is legal; the default frame, which a caller in C gets where none is read, is too.
 use mathlib.Core.Path.{◌≡◌, refl}
 use mathlib.Core.Bool.{Bool, true, false, ◌&&◌, ◌||◌, cond}
 use mathlib.Core.List.{List}
@@ -11,6 +11,7 @@ use Rattle.records.proofs.Booleans.{cond_holds}
 use Rattle.records.proofs.OctetLaws.{octets_drop, array_tabulate, array_overwritten, array_zeros}
 use Rattle.records.specs.declared.error.VsError.{VsError}
 use Rattle.records.specs.declared.frame.SvFrame.{SvFrame}
+use Rattle.records.specs.Frame.{default_sv}
 use Rattle.records.specs.Legal.{Octets, OctetArray, LegalSv}
 use Rattle.records.specs.Octets.{octet_at}
 use Rattle.std.proofs.Common.{Option, Some, None, Result, Ok, Err}
@@ -45,6 +46,9 @@ empty_legal a t =
 abbrev pub IfLegal : Result SvFrame VsError → Type 0
 IfLegal (Ok f) = LegalSv f
 IfLegal (Err e) = Unit
+
+pub default_legal : LegalSv default_sv
+default_legal = empty_legal (array_zeros 6) (omega arith)
 
 -- a field's content, whatever its length
 module _ (content : List ℕ) (o : Octets content) where
@@ -129,3 +133,15 @@ sv_legal octets time o t = go (apdu_of 0x88BA octets)
         apdu_legal (take (a.end - a.start) (drop a.start octets)) (part_octets octets o a.start (a.end - a.start))
         (array_tabulate (λ k. octet_at octets (6 + k)) (λ k. o (6 + k)) 6) t
     go None = tt
+
+-- the frame that is read, or the default frame where none is
+abbrev pub frame_or_default : Result SvFrame VsError → SvFrame
+frame_or_default (Ok f) = f
+frame_or_default (Err e) = default_sv
+
+pub sv_legal_or_default : (octets : List ℕ) (time : ℕ) → Octets octets → time < 2 ^ 64 → LegalSv (frame_or_default (sv_frame octets time))
+sv_legal_or_default octets time o t = go (sv_frame octets time) (sv_legal octets time o t)
+  where
+    go : (r : Result SvFrame VsError) → IfLegal r → LegalSv (frame_or_default r)
+    go (Ok f) l = l
+    go (Err e) l = default_legal
