@@ -1,4 +1,4 @@
--- Laws of what is sought: places, and what stands there, for every reader of a frame format.
+-- Laws of what is sought, by the answer to the search; places, and what stands there: for every reader of a frame format.
 use mathlib.Core.Path.{◌≡◌, refl, sym, ◌∙◌, ap}
 use mathlib.Core.Bool.{Bool, true, false, cond}
 use mathlib.Core.List.{List, [], ◌∷◌}
@@ -8,12 +8,36 @@ use lib.Dec.{eqb}
 use lib.ListN.{length, take, drop, length-take, length-drop}
 use lib.Seq.{take-length, drop-drop}
 use Rattle.records.proofs.Booleans.{cond_holds}
-use Rattle.std.proofs.Common.{Option, Some, None, Ok}
+use Rattle.records.specs.declared.error.VsError.{VsError}
+use Rattle.records.specs.declared.error.VsError.TheVariants.{InvalidInput}
+use Rattle.std.proofs.Common.{Option, Some, None, Result, Ok, Err}
 use Rattle.wire.specs.declared.element.Element.{Element}
+use Rattle.wire.specs.declared.element.Part.{Part}
 use Rattle.wire.specs.Element.{element, Elements, ended, failed, next, element_then, elements_then, elements_of, elements}
-use Rattle.wire.specs.Element.{first_content, content_of, opened}
+use Rattle.wire.specs.Element.{Sought, first_content, content_of, opened}
 use Rattle.wire.specs.Element.{content_place, opened_place, first_place, part_of, PartWithin}
-use Rattle.wire.proofs.ElementLaws.{element_end}
+use Rattle.wire.proofs.ElementLaws.{element_end, Any, FoundOr}
+
+-- an answer that is no part
+abbrev pub NoPart : Result (Option Part) VsError → Type 0
+NoPart r = (start len : ℕ) → r ≡ Ok (Some (record { start = start; len = len })) → ⊥
+
+-- what is sought, by the answer to the search
+module _ (octets : List ℕ) (r : Result (Option Part) VsError) {s : Sought} (e : part_of octets r ≡ s) where
+  pub part_found : {start len : ℕ} → r ≡ Ok (Some (record { start = start; len = len })) → s ≡ Ok (Some (take len (drop start octets)))
+  part_found q = sym e ∙ ap (part_of octets) q
+
+  -- one that is not found is the error, for any use of it
+  pub part_none :
+      {T : Type 0} (then : Sought → T) → then (Ok None) ≡ then (Err InvalidInput) → FoundOr Any s → NoPart r → then (Err InvalidInput) ≡ then s
+  part_none then m f n = go r s n e f
+    where
+      go : (r : Result (Option Part) VsError) (s : Sought) → NoPart r → part_of octets r ≡ s → FoundOr Any s → then (Err InvalidInput) ≡ then s
+      go r (Ok None) n e f = sym m
+      go r (Err x) n e f = ap (λ x. then (Err x)) (sym f)
+      go (Ok (Some p)) (Ok (Some l)) n e f = absurd (n p.start p.len refl)
+      go (Ok None) (Ok (Some l)) n e f = absurd (cc)
+      go (Err x) (Ok (Some l)) n e f = absurd (cc)
 
 -- ---- places and what stands there
 
